@@ -1,0 +1,4 @@
+pub mod Cases
+pub mod Tabulate
+pub mod Tables
+pub mod Copy

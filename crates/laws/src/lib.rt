@@ -1,0 +1,24 @@
+// Helpers on bytes that several crates need.
+ghost use mathlib.Core.Path.{_≡_};
+ghost use mathlib.Core.Logic.{_⊎_};
+ghost use Prim.Native.Nat.{_≤_};
+ghost use Rattle.laws.specs.Lists.{overwrite};
+
+// The smaller of two counts.
+fn least(a: usize, b: usize) -> usize
+    ensures { λ r. ⌜ (r ≤ a) × (r ≤ b) × ((r ≡ a) ⊎ (r ≡ b)) ⌝ }
+{
+    if a < b { a } else { b }
+}
+
+// The first bytes of out become those of s, as many as there is room for.
+pub fn overwrite(out: &mut [u8], s: &[u8])
+    ensures { λ r. ⌜ now (out .exit) ≡ overwrite (now (out .entry)) (now (s .entry)) ⌝ }
+{
+    let n = least(s.len(), out.len());
+    let mut i: usize = 0;
+    while i < n {
+        out[i] = s[i];
+        i = i + 1;
+    }
+}
