@@ -1,0 +1,141 @@
+-- What the crates above use of the running hash and of D, instead of their text.
+-- Assumes nothing.
+use mathlib.Core.Path.{_≡_, refl, sym, ap, _∙_}
+use mathlib.Core.List.{List, [], _++_}
+use Prim.Native.Nat.{ℕ, _+_, _-_, _*_, _/_, _%_, _^_, _≤_, _<_}
+use native.Mathlib.Nat.{zero-add, div-eq-of-lt}
+use native.Mathlib.Omega.{arith}
+use lib.ListN.{length, take, drop, replicate, length-append, length-drop, length-replicate}
+use lib.Seq.{drop-at}
+use Rattle.laws.proofs.Tabulate.{length-tabulate}
+use Rattle.hash.specs.Constants.{H⁰}
+use Rattle.hash.specs.Sha256.{blocks, digestFrom, sha256}
+use Rattle.hash.specs.Hasher.{zeroFilled, emptyHasher, hasherOf, absorbFrom, absorb, finish}
+use Rattle.hash.specs.Double.{maxMessage, maxDMessage, maxPoolLength, D, emptyPool, poolOf, poolDigest}
+use Rattle.hash.specs.declared.hasher.Hasher.{Hasher}
+use Rattle.hash.proofs.Absorb as Absorb
+
+-- ---- lengths
+
+pub length-digest : (h m : List ℕ) → length (digestFrom h m) ≡ 32
+unfolding digestFrom
+length-digest h m = length-tabulate _ 32
+
+pub length-sha256 : (m : List ℕ) → length (sha256 m) ≡ 32
+unfolding sha256
+length-sha256 m = length-digest H⁰ _
+
+pub length-D : (m : List ℕ) → length (D m) ≡ 32
+unfolding D
+length-D m = length-sha256 (sha256 m)
+
+pub length-pool-digest : (r : Hasher) → length (poolDigest r) ≡ 32
+unfolding poolDigest
+length-pool-digest r = length-sha256 (finish r)
+
+-- ---- absorbing
+
+-- the length after d
+pub absorb-length : (r : Hasher) (d : List ℕ) → absorb r d .length ≡ r .length + length d
+unfolding absorb absorbFrom
+absorb-length r d = refl
+
+-- two parts are absorbed as their concatenation is
+pub absorb-append : (r : Hasher) (d e : List ℕ) → length (r .tail) ≡ 64 → absorb (absorb r d) e ≡ absorb r (d ++ e)
+absorb-append r d e long = Absorb.absorb-append r d long e
+
+-- ---- SHA-256 by a running hash
+
+pub empty-is : emptyHasher ≡ hasherOf []
+unfolding emptyHasher hasherOf absorbFrom blocks zeroFilled
+empty-is = refl
+
+pub empty-length : emptyHasher .length ≡ 0
+unfolding emptyHasher
+empty-length = refl
+
+pub absorb-hasher : (m d : List ℕ) → absorb (hasherOf m) d ≡ hasherOf (m ++ d)
+absorb-hasher m d = rw (← Absorb.absorb-empty m, ← Absorb.absorb-empty (m ++ d)) (absorb-append emptyHasher m d Absorb.empty-long)
+
+pub finish-hasher : (m : List ℕ) → finish (hasherOf m) ≡ sha256 m
+finish-hasher m = rw (← Absorb.absorb-empty m) (Absorb.finish-empty m)
+
+hasher-length : (m : List ℕ) → hasherOf m .length ≡ length m
+unfolding hasherOf absorbFrom
+hasher-length m = refl
+
+rest-length : (m : List ℕ) → length (drop (length m / 64 * 64) m) ≡ length m % 64
+rest-length m = rw length-drop (omega arith)
+
+hasher-tail : (m : List ℕ) → length (hasherOf m .tail) ≡ 64
+unfolding hasherOf absorbFrom zeroFilled
+hasher-tail m = rw (length-append, length-replicate, rest-length m) (omega arith)
+
+hasher-zeros : (m : List ℕ) → drop (length m % 64) (hasherOf m .tail) ≡ replicate (64 - length m % 64) 0
+unfolding hasherOf absorbFrom zeroFilled
+hasher-zeros m =
+    let t : List ℕ = drop (length m / 64 * 64) m in
+    rw (← rest-length m) (drop-at t (replicate (64 - length t) 0) (length t) refl)
+
+hasher-short : (m : List ℕ) → length m < 64 → hasherOf m .chain ≡ emptyHasher .chain
+unfolding hasherOf absorbFrom emptyHasher blocks
+hasher-short m h =
+    let e : length m / 64 ≡ 0 = div-eq-of-lt h in
+    rw e
+
+-- ---- a pool
+
+pub pool-empty : emptyPool ≡ poolOf []
+unfolding emptyPool poolOf
+pool-empty = empty-is ∙ sym (Absorb.absorb-empty [])
+
+-- the same state as a hasher's, until D changes
+pool-is : (m : List ℕ) → poolOf m ≡ hasherOf m
+unfolding poolOf emptyPool
+pool-is m = Absorb.absorb-empty m
+
+pub absorb-pool : (m d : List ℕ) → absorb (poolOf m) d ≡ poolOf (m ++ d)
+absorb-pool m d = rw (pool-is m, pool-is (m ++ d)) (absorb-hasher m d)
+
+absorb-pool′ : (m d : List ℕ) → absorb (absorb emptyPool m) d ≡ poolOf (m ++ d)
+unfolding poolOf
+absorb-pool′ m d = absorb-pool m d
+
+pub pool-digest-is : (m : List ℕ) → poolDigest (poolOf m) ≡ D m
+unfolding poolDigest D
+pool-digest-is m = rw (pool-is m, finish-hasher m)
+
+pub pool-empty-length : emptyPool .length ≡ 0
+unfolding emptyPool emptyHasher
+pool-empty-length = refl
+
+pub pool-length : (m : List ℕ) → poolOf m .length ≡ length m
+pool-length m = rw (pool-is m) (hasher-length m)
+
+-- a pool's tail is 64 bytes, with zeros after the bytes that are not hashed yet
+pub pool-tail : (m : List ℕ) → length (poolOf m .tail) ≡ 64
+pool-tail m = rw (pool-is m) (hasher-tail m)
+
+pub pool-zeros : (m : List ℕ) → drop (length m % 64) (poolOf m .tail) ≡ replicate (64 - length m % 64) 0
+pool-zeros m = rw (pool-is m) (hasher-zeros m)
+
+-- below 64 bytes a pool's running hash is the empty pool's
+pub pool-short : (m : List ℕ) → length m < 64 → poolOf m .chain ≡ emptyPool .chain
+unfolding emptyPool
+pool-short m h = rw (pool-is m) (hasher-short m h)
+
+-- D of a message that comes in two parts
+pub pool-digest-joined : (a b : List ℕ) → poolDigest (absorb (absorb emptyPool a) b) ≡ D (a ++ b)
+pool-digest-joined a b = ap poolDigest (absorb-pool′ a b) ∙ pool-digest-is (a ++ b)
+
+-- ---- limits
+
+-- a message that D takes is one that SHA-256 takes
+pub d-message-fits : (n : ℕ) → n ≤ maxDMessage → n ≤ maxMessage
+unfolding maxDMessage
+d-message-fits n h = h
+
+-- and so is what a pool may hold
+pub pool-length-fits : (n : ℕ) → n ≤ maxPoolLength → n ≤ maxMessage
+unfolding maxPoolLength maxDMessage
+pool-length-fits n h = h

@@ -1,0 +1,9 @@
+pub mod Bitwise
+pub mod Rounds
+pub mod Schedule
+pub mod Message
+pub mod Padding
+pub mod Absorb
+pub mod Laws
+pub mod Answers
+pub mod Statements

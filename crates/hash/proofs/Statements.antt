@@ -1,0 +1,27 @@
+-- The statements of specs/Statements.antt hold.
+-- Assumes nothing.
+use mathlib.Core.Path.{_≡_, refl}
+use mathlib.Core.List.{List, _∷_}
+use Prim.Native.Nat.{ℕ, _+_, _*_, _%_, _≤_}
+use native.Mathlib.Omega.{arith}
+use lib.ListN.{length, replicate, length-append, length-replicate}
+use Rattle.laws.proofs.Tabulate.{length-tabulate}
+use Rattle.hash.specs.Padding.{lengthByte, zeroBytes, padding}
+use Rattle.hash.specs.Answers.{number}
+use Rattle.hash.specs.Statements.{PaddingLeast, PaddedWhole, NumberInjective, zeroBits, Solves}
+use Rattle.hash.specs.declared.answer.Answer.the-variants.{Done, TooLong}
+
+pub padding-least : (n : ℕ) → PaddingLeast n
+unfolding zeroBytes
+padding-least n = record { solves = omega arith; least = λ k h. omega (arith, h) }
+
+pub padded-whole : (m : List ℕ) → PaddedWhole m
+unfolding padding zeroBytes
+padded-whole m = simp (length-append, length-replicate, length-tabulate) (omega arith)
+
+pub number-injective : NumberInjective
+unfolding number
+number-injective Done Done e = refl
+number-injective Done TooLong e = absurd (omega (arith, e))
+number-injective TooLong Done e = absurd (omega (arith, e))
+number-injective TooLong TooLong e = refl

@@ -1,0 +1,32 @@
+-- `hash::block::compress` meets its contract.
+-- Assumes nothing.
+use Rattle.hash.specs.Block.{compress}
+use borrow.Author.Needs.{needs}
+use Rattle.hash.proofs.block.compress.Statement.{statement}
+use Rattle.hash.proofs.block.compress.Tie as tie
+
+scheduled-requires : tie.Need-scheduled-requires
+scheduled-requires c κs = search needs
+
+initial-working-requires : tie.Need-initial-working-requires
+initial-working-requires c κs = search needs
+
+all-rounds-requires : tie.Need-all-rounds-requires
+all-rounds-requires c κs = search needs
+
+added-requires : tie.Need-added-requires
+added-requires c κs = search needs
+
+returns : tie.Need-returns
+unfolding compress
+returns c = cc
+
+pub compress-spec : {M : Type 1} → statement M
+compress-spec =
+    tie.close
+    (tie.spec
+    scheduled-requires
+    initial-working-requires
+    all-rounds-requires
+    added-requires
+    returns)

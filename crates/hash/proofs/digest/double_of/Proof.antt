@@ -1,0 +1,42 @@
+-- `hash::digest::double_of` meets its contract.
+-- Assumes nothing.
+use mathlib.Core.Path.{_≡_, _∙_}
+use native.Mathlib.Nat.{zero-add}
+use native.Mathlib.Omega.{arith}
+use Rattle.hash.proofs.Laws.{absorb-length, pool-empty-length, pool-digest-joined, d-message-fits}
+use borrow.Author.Needs.{needs}
+use Rattle.hash.proofs.digest.double_of.Statement.{statement}
+use Rattle.hash.proofs.digest.double_of.Tie as tie
+
+-- `hash::digest::double_of` meets its contract.
+-- Assumes nothing.
+
+empty-pool-requires : tie.Need-empty-pool-requires
+empty-pool-requires c κs = search needs
+
+extended-requires : tie.Need-extended-requires
+extended-requires c κs =
+    let h = d-message-fits _ (c .before .before .before .pre) in
+    rw (c .empty-pool .ensures, pool-empty-length, zero-add) (omega (arith, h))
+
+extended-requires-2 : tie.Need-extended-requires-2
+extended-requires-2 c κs =
+    rw (c .extended .ensures, absorb-length, c .before .empty-pool .ensures, pool-empty-length, zero-add) (d-message-fits _ (c .before .before .before .before .pre))
+
+pool-digest-of-requires : tie.Need-pool-digest-of-requires
+pool-digest-of-requires c κs = search needs
+
+returns : tie.Need-returns
+returns c =
+    c .pool-digest-of .ensures
+    ∙ rw (c .before .extended2 .ensures, c .before .before .extended .ensures, c .before .before .before .empty-pool .ensures) (pool-digest-joined _ _)
+
+pub double-of-spec : {M : Type 1} → statement M
+double-of-spec =
+    tie.close
+    (tie.spec
+    empty-pool-requires
+    extended-requires
+    extended-requires-2
+    pool-digest-of-requires
+    returns)

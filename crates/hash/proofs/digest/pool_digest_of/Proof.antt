@@ -1,0 +1,28 @@
+-- `hash::digest::pool_digest_of` meets its contract.
+-- Assumes nothing.
+use mathlib.Core.Path.{_≡_, _∙_}
+use Rattle.hash.specs.Double.{maxMessage, poolDigest}
+use borrow.Author.Needs.{needs}
+use Rattle.hash.proofs.digest.pool_digest_of.Statement.{statement}
+use Rattle.hash.proofs.digest.pool_digest_of.Tie as tie
+
+-- `hash::digest::pool_digest_of` meets its contract.
+-- Assumes nothing.
+
+finished-requires : tie.Need-finished-requires
+finished-requires c κs = search needs
+
+slice-aggregate-digest-of : tie.Need-slice-aggregate-digest-of
+slice-aggregate-digest-of c = search needs
+
+digest-of-requires : tie.Need-digest-of-requires
+unfolding maxMessage
+digest-of-requires c κs = search needs
+
+returns : tie.Need-returns
+unfolding poolDigest
+returns c = c .digest-of .ensures ∙ rw (c .before .before .finished .ensures)
+
+pub pool-digest-of-spec : {M : Type 1} → statement M
+pool-digest-of-spec =
+    tie.close (tie.spec finished-requires slice-aggregate-digest-of digest-of-requires returns)

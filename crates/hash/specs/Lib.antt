@@ -1,0 +1,9 @@
+pub mod Word
+pub mod Constants
+pub mod Padding
+pub mod Block
+pub mod Sha256
+pub mod Hasher
+pub mod Double
+pub mod Answers
+pub mod Statements

@@ -1,0 +1,30 @@
+-- What FIPS 180-4, 5.1.1 says of the padding, in its own words and in bits, and that numbers tell answers apart.
+-- Assumes nothing.
+use mathlib.Core.Path.{_≡_}
+use mathlib.Core.List.{List, _++_}
+use Prim.Native.Nat.{ℕ, _+_, _*_, _%_, _≤_}
+use lib.ListN.{length}
+use Rattle.hash.specs.Padding.{zeroBytes, padding}
+use Rattle.hash.specs.Answers.{number}
+use Rattle.hash.specs.declared.answer.Answer.{Answer}
+
+-- the count of zero bits after the bit 1: seven in the byte 128, eight in each zero byte
+abbrev pub zeroBits : ℕ → ℕ
+zeroBits n = 7 + 8 * zeroBytes n
+
+-- k solves l + 1 + k ≡ 448 (mod 512)
+abbrev pub Solves : ℕ → ℕ → Type 0
+Solves l k = (l + 1 + k) % 512 ≡ 448
+
+-- the zero bits are the least solution, for a message of n bytes
+pub record PaddingLeast (n : ℕ) : Type 0 where
+  pub solves : Solves (8 * n) (zeroBits n)
+  pub least : (k : ℕ) → Solves (8 * n) k → zeroBits n ≤ k
+
+-- a padded message is whole blocks
+abbrev pub PaddedWhole : List ℕ → Type 0
+PaddedWhole m = length (m ++ padding (length m)) % 64 ≡ 0
+
+-- different answers have different numbers
+abbrev pub NumberInjective : Type 0
+NumberInjective = (a b : Answer) → number a ≡ number b → a ≡ b

@@ -1,0 +1,16 @@
+// SHA-256 (FIPS 180-4): of a slice, of a message that comes in parts, and D, its double, as Fortuna's pools need it.
+mod answer;
+mod block;
+mod bytes;
+mod digest;
+mod hasher;
+mod tail;
+mod word;
+
+pub use answer::Answer;
+pub use answer::Hashed;
+pub use digest::double_sha256;
+pub use digest::double_sha256_joined;
+pub use digest::sha256;
+pub use hasher::Absorbed;
+pub use hasher::Hasher;
