@@ -6,12 +6,15 @@ use Prim.Native.Nat.{ℕ, _+_, _-_, _*_, _/_, _%_, _^_, _≤_, _<_}
 use native.Mathlib.Nat.{zero-add, div-eq-of-lt}
 use native.Mathlib.Omega.{arith}
 use lib.ListN.{length, take, drop, replicate, length-append, length-drop, length-replicate}
+use lib.Dec.{lit≤}
 use lib.Seq.{drop-at}
+use borrow.Author.Tests.{le-ltb}
 use Rattle.laws.proofs.Tabulate.{length-tabulate}
 use Rattle.hash.specs.Constants.{H⁰}
 use Rattle.hash.specs.Sha256.{blocks, digestFrom, sha256}
 use Rattle.hash.specs.Hasher.{zeroFilled, emptyHasher, hasherOf, absorbFrom, absorb, finish}
 use Rattle.hash.specs.Double.{maxMessage, maxDMessage, maxPoolLength, D, emptyPool, poolOf, poolDigest}
+use Rattle.hash.specs.Answers.{lengthNumber, digestWithin, absorbed}
 use Rattle.hash.specs.declared.hasher.Hasher.{Hasher}
 use Rattle.hash.proofs.Absorb as Absorb
 
@@ -139,3 +142,25 @@ d-message-fits n h = h
 pub pool-length-fits : (n : ℕ) → n ≤ maxPoolLength → n ≤ maxMessage
 unfolding maxPoolLength maxDMessage
 pool-length-fits n h = h
+
+-- D takes a key and more
+pub d-message-room : 32 ≤ maxDMessage
+unfolding maxDMessage maxMessage
+d-message-room = lit≤ tt
+
+-- ---- answers
+
+-- the digest of a message within the limit
+pub digest-within : (limit n : ℕ) (d : List ℕ) → n ≤ limit → digestWithin limit n d ≡ d
+unfolding digestWithin
+digest-within limit n d h = rw (le-ltb limit n h)
+
+-- a message within the limit is accepted
+pub number-within : (limit n : ℕ) → n ≤ limit → lengthNumber limit n ≡ 0
+unfolding lengthNumber
+number-within limit n h = rw (le-ltb limit n h)
+
+-- the next state of a running hash that stays within the limit
+pub absorbed-within : (r : Hasher) (d : List ℕ) → r .length + length d ≤ maxMessage → absorbed r d ≡ absorb r d
+unfolding absorbed
+absorbed-within r d h = rw (le-ltb maxMessage (r .length + length d) h)

@@ -7,3 +7,4 @@ pub mod Absorb
 pub mod Laws
 pub mod Answers
 pub mod Statements
+pub mod Boundaries

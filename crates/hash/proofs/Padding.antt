@@ -56,22 +56,29 @@ last-is t b e long eight copy =
     let gone : drop (length b) (drop 56 t) ≡ [] = drop-of-length-le (drop 56 t) {i = length b} (omega arith) in
     rw (copy, w, overwrite-fits (drop 56 t) b (omega arith), none, gone) (simp append-nil)
 
+-- the zeros that end in the block of the message's last bytes, and those that go on into one more
+zeros-one : (n : ℕ) → n % 64 < 56 → zeroBytes n ≡ 55 - n % 64
+unfolding zeroBytes
+zeros-one n h = omega arith
+
+zeros-two : (n : ℕ) → 56 ≤ n % 64 → zeroBytes n ≡ 63 - n % 64 + 56
+unfolding zeroBytes
+zeros-two n h = omega arith
+
 module _ (a : List ℕ) (n : ℕ) (short : length a ≡ n % 64) where
   -- the padding of a message ends in the block of its last bytes a
   pub pad-one : n % 64 < 56 → a ++ padding n ≡ take 56 (zeroFilled (a ++ (128 ∷ []))) ++ tabulate (lengthByte (8 * n)) 8
-  unfolding padding zeroBytes zeroFilled
+  unfolding padding zeroFilled
   pad-one h =
-      let k : (119 - n % 64) % 64 ≡ 55 - n % 64 = omega arith in
       let z : 64 - length (a ++ (128 ∷ [])) ≡ 55 - n % 64 + 8 = rw length-append (omega arith) in
       let p : List ℕ = a ++ (128 ∷ []) ++ replicate (55 - n % 64) 0 in
       let l : length p ≡ 56 = simp (length-append, length-replicate) (omega arith) in
-      rw (k, z, zeros-add (55 - n % 64) 8, ← append-assoc (a ++ (128 ∷ [])) (replicate (55 - n % 64) 0) (replicate 8 0), take-at p (replicate 8 0) 56 l)
+      rw (zeros-one n h, z, zeros-add (55 - n % 64) 8, ← append-assoc (a ++ (128 ∷ [])) (replicate (55 - n % 64) 0) (replicate 8 0), take-at p (replicate 8 0) 56 l)
       (simp append-assoc)
 
   -- the padding of a message needs one block more
   pub pad-two : 56 ≤ n % 64 → a ++ padding n ≡ zeroFilled (a ++ (128 ∷ [])) ++ (take 56 (replicate 64 0) ++ tabulate (lengthByte (8 * n)) 8)
-  unfolding padding zeroBytes zeroFilled
+  unfolding padding zeroFilled
   pad-two h =
-      let k : (119 - n % 64) % 64 ≡ 63 - n % 64 + 56 = omega arith in
       let z : 64 - length (a ++ (128 ∷ [])) ≡ 63 - n % 64 = rw length-append (omega arith) in
-      rw (k, z, zeros-add (63 - n % 64) 56) (simp append-assoc)
+      rw (zeros-two n h, z, zeros-add (63 - n % 64) 56) (simp append-assoc)

@@ -7,3 +7,4 @@ pub mod Hasher
 pub mod Double
 pub mod Answers
 pub mod Statements
+pub mod Boundaries

@@ -3,6 +3,7 @@ ghost use mathlib.Core.Path.{_≡_};
 ghost use Prim.Native.Nat.{_+_};
 ghost use lib.Dec.{ltb};
 ghost use lib.ListN.{replicate};
+ghost use Rattle.hash.specs.Double.{maxDMessage, maxPoolLength};
 ghost use Rattle.hash.specs.Answers.{number};
 
 pub enum Answer {
@@ -33,6 +34,20 @@ impl Answer {
             Answer::TooLong => 17,
         }
     }
+}
+
+// The longest message to D, in bytes.
+pub fn max_d_message() -> u64
+    ensures { λ r. ⌜ r ≡ maxDMessage ⌝ }
+{
+    MAX_D_MESSAGE
+}
+
+// The longest pool, in bytes.
+pub fn max_pool_length() -> u64
+    ensures { λ r. ⌜ r ≡ maxPoolLength ⌝ }
+{
+    MAX_POOL_LENGTH
 }
 
 // A message of have + more bytes is above the limit. The sum itself might not fit.

@@ -9,6 +9,8 @@ mod word;
 
 pub use answer::Answer;
 pub use answer::Hashed;
+pub use answer::max_d_message;
+pub use answer::max_pool_length;
 pub use digest::double_sha256;
 pub use digest::double_sha256_joined;
 pub use digest::sha256;

@@ -44,6 +44,11 @@ pub overwrite-fits : (d s : List ℕ) → length s ≤ length d → overwrite d 
 unfolding overwrite
 overwrite-fits d s h = rw (take-all (length d) s h)
 
+-- all of d is written over
+pub overwrite-cut : (d s : List ℕ) → length d ≤ length s → overwrite d s ≡ take (length d) s
+unfolding overwrite
+overwrite-cut d s h = rw (drop-of-length-le d {i = length s} h, append-nil)
+
 -- the part of a list from d to its end
 pub part-end : (d : ℕ) (m : List ℕ) → take (length m - d) (drop d m) ≡ drop d m
 part-end d m = take-all (length m - d) (drop d m) (le-of-eq (length-drop d m))

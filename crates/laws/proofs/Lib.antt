@@ -2,3 +2,4 @@ pub mod Cases
 pub mod Tabulate
 pub mod Tables
 pub mod Copy
+pub mod Refusals

@@ -1,7 +1,9 @@
 -- Lists that several crates speak of. Past its end a list reads as 0 (`getD s i 0`), and `take` and `drop` stop there.
 -- Assumes nothing.
+use mathlib.Core.Bool.{Bool, true, _&&_}
 use mathlib.Core.List.{List, [], _∷_, _++_}
 use Prim.Native.Nat.{ℕ, zero, suc}
+use lib.Dec.{eqb}
 use lib.ListN.{length, take, drop}
 
 -- f 0, f 1, .., f (n - 1)
@@ -12,3 +14,8 @@ tabulate f (suc n) = tabulate f n ++ (f n ∷ [])
 -- d with its first bytes replaced by those of s, as many as there is room for
 unfoldable pub overwrite : List ℕ → List ℕ → List ℕ
 overwrite d s = take (length d) s ++ drop (length s) d
+
+-- every element is 0
+unfoldable pub allZero : List ℕ → Bool
+allZero [] = true
+allZero (x ∷ xs) = eqb x 0 && allZero xs

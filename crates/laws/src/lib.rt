@@ -2,7 +2,7 @@
 ghost use mathlib.Core.Path.{_≡_};
 ghost use mathlib.Core.Logic.{_⊎_};
 ghost use Prim.Native.Nat.{_≤_};
-ghost use Rattle.laws.specs.Lists.{overwrite};
+ghost use Rattle.laws.specs.Lists.{overwrite, allZero};
 
 // The smaller of two counts.
 fn least(a: usize, b: usize) -> usize
@@ -21,4 +21,18 @@ pub fn overwrite(out: &mut [u8], s: &[u8])
         out[i] = s[i];
         i = i + 1;
     }
+}
+
+// Whether every byte is 0.
+pub fn all_zero(bytes: &[u8]) -> bool
+    ensures { λ r. ⌜ r ≡ allZero (now (bytes .entry)) ⌝ }
+{
+    let mut i: usize = 0;
+    while i < bytes.len() {
+        if bytes[i] != 0 {
+            return false;
+        }
+        i = i + 1;
+    }
+    true
 }

@@ -1,0 +1,7 @@
+pub mod Xor
+pub mod FieldClaims
+pub mod StateClaims
+pub mod Schedule
+pub mod Bytes
+pub mod Laws
+pub mod Rows

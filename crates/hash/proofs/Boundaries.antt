@@ -1,0 +1,72 @@
+-- The boundary rows, by computation, a declaration for each, since one alone may take only so many steps.
+-- Assumes nothing.
+use mathlib.Core.Path.{refl}
+use Rattle.laws.specs.Lists.{tabulate}
+use Rattle.hash.specs.Constants.{K, H⁰}
+use Rattle.hash.specs.Padding.{zeroBytes, padding}
+use Rattle.hash.specs.Block.{nextWord, schedule, T₁, T₂, round, rounds, compress}
+use Rattle.hash.specs.Sha256.{blocks, digestFrom, sha256}
+use Rattle.hash.specs.Hasher.{zeroFilled, absorbFrom, absorb, finish}
+use Rattle.hash.specs.Double.{maxMessage, maxDMessage, maxPoolLength, D}
+use Rattle.hash.specs.Answers.{lengthNumber}
+use Rattle.hash.specs.Boundaries.{messages, digests, passed, PaddingsRow, LengthsRow, MessageLimitRow, DoubleLimitRow, PoolLimitRow, StandardRow, EdgesRow, DoublesRow, FinishesRow, AbsorbsRow, LongestRow, Boundaries}
+
+paddings : PaddingsRow
+unfolding tabulate zeroBytes padding
+paddings = refl
+
+lengths : LengthsRow
+unfolding tabulate zeroBytes padding
+lengths = refl
+
+message-limit : MessageLimitRow
+unfolding lengthNumber maxMessage
+message-limit = refl
+
+double-limit : DoubleLimitRow
+unfolding lengthNumber maxDMessage maxMessage
+double-limit = refl
+
+pool-limit : PoolLimitRow
+unfolding lengthNumber maxPoolLength maxDMessage maxMessage
+pool-limit = refl
+
+standard : StandardRow
+unfolding tabulate K H⁰ nextWord schedule T₁ T₂ round rounds compress blocks digestFrom zeroBytes padding sha256 messages digests
+standard = refl
+
+edges : EdgesRow
+unfolding tabulate K H⁰ nextWord schedule T₁ T₂ round rounds compress blocks digestFrom zeroBytes padding sha256
+edges = refl
+
+doubles : DoublesRow
+unfolding tabulate K H⁰ nextWord schedule T₁ T₂ round rounds compress blocks digestFrom zeroBytes padding sha256 D
+doubles = refl
+
+finishes : FinishesRow
+unfolding tabulate K H⁰ nextWord schedule T₁ T₂ round rounds compress blocks digestFrom zeroBytes padding sha256 finish passed
+finishes = refl
+
+absorbs : AbsorbsRow
+unfolding tabulate K H⁰ nextWord schedule T₁ T₂ round rounds compress blocks digestFrom zeroBytes padding sha256 absorb absorbFrom zeroFilled passed
+absorbs = refl
+
+longest : LongestRow
+unfolding tabulate K H⁰ nextWord schedule T₁ T₂ round rounds compress blocks digestFrom zeroBytes padding sha256 absorb absorbFrom zeroFilled passed
+longest = refl
+
+pub boundaries : Boundaries
+boundaries =
+    record {
+      paddings = paddings;
+      lengths = lengths;
+      messageLimit = message-limit;
+      doubleLimit = double-limit;
+      poolLimit = pool-limit;
+      standard = standard;
+      edges = edges;
+      doubles = doubles;
+      finishes = finishes;
+      absorbs = absorbs;
+      longest = longest;
+    }

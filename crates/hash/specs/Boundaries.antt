@@ -1,0 +1,107 @@
+-- Boundary rows, each a list of readings and what they must be: lengths at the edges of a block and of the limit, and digests that other programs worked out.
+-- Assumes nothing.
+use mathlib.Core.Path.{_≡_}
+use mathlib.Core.List.{List, [], _∷_, _++_, map}
+use Prim.Native.Nat.{ℕ, _+_, _-_, _^_}
+use lib.ListN.{length, take, drop, replicate}
+use Rattle.hash.specs.Padding.{padding}
+use Rattle.hash.specs.Sha256.{sha256}
+use Rattle.hash.specs.Hasher.{absorb, finish}
+use Rattle.hash.specs.Double.{maxMessage, maxDMessage, maxPoolLength, D}
+use Rattle.hash.specs.Answers.{lengthNumber}
+use Rattle.hash.specs.declared.hasher.Hasher.{Hasher}
+
+-- FIPS 180-4's first test messages: the empty one, 'abc', and the one of 448 bits
+unfoldable pub messages : List (List ℕ)
+messages =
+    [] ∷
+    (0x61 ∷ 0x62 ∷ 0x63 ∷ []) ∷
+    (0x61 ∷ 0x62 ∷ 0x63 ∷ 0x64 ∷ 0x62 ∷ 0x63 ∷ 0x64 ∷ 0x65 ∷ 0x63 ∷ 0x64 ∷ 0x65 ∷ 0x66 ∷ 0x64 ∷ 0x65 ∷ 0x66 ∷ 0x67 ∷ 0x65 ∷ 0x66 ∷ 0x67 ∷ 0x68 ∷ 0x66 ∷ 0x67 ∷ 0x68 ∷ 0x69 ∷ 0x67 ∷ 0x68 ∷ 0x69 ∷ 0x6a ∷ 0x68 ∷ 0x69 ∷ 0x6a ∷ 0x6b ∷ 0x69 ∷ 0x6a ∷ 0x6b ∷ 0x6c ∷ 0x6a ∷ 0x6b ∷ 0x6c ∷ 0x6d ∷ 0x6b ∷ 0x6c ∷ 0x6d ∷ 0x6e ∷ 0x6c ∷ 0x6d ∷ 0x6e ∷ 0x6f ∷ 0x6d ∷ 0x6e ∷ 0x6f ∷ 0x70 ∷ 0x6e ∷ 0x6f ∷ 0x70 ∷ 0x71 ∷ []) ∷
+    []
+
+unfoldable pub digests : List (List ℕ)
+digests =
+    (0xe3 ∷ 0xb0 ∷ 0xc4 ∷ 0x42 ∷ 0x98 ∷ 0xfc ∷ 0x1c ∷ 0x14 ∷ 0x9a ∷ 0xfb ∷ 0xf4 ∷ 0xc8 ∷ 0x99 ∷ 0x6f ∷ 0xb9 ∷ 0x24 ∷ 0x27 ∷ 0xae ∷ 0x41 ∷ 0xe4 ∷ 0x64 ∷ 0x9b ∷ 0x93 ∷ 0x4c ∷ 0xa4 ∷ 0x95 ∷ 0x99 ∷ 0x1b ∷ 0x78 ∷ 0x52 ∷ 0xb8 ∷ 0x55 ∷ []) ∷
+    (0xba ∷ 0x78 ∷ 0x16 ∷ 0xbf ∷ 0x8f ∷ 0x01 ∷ 0xcf ∷ 0xea ∷ 0x41 ∷ 0x41 ∷ 0x40 ∷ 0xde ∷ 0x5d ∷ 0xae ∷ 0x22 ∷ 0x23 ∷ 0xb0 ∷ 0x03 ∷ 0x61 ∷ 0xa3 ∷ 0x96 ∷ 0x17 ∷ 0x7a ∷ 0x9c ∷ 0xb4 ∷ 0x10 ∷ 0xff ∷ 0x61 ∷ 0xf2 ∷ 0x00 ∷ 0x15 ∷ 0xad ∷ []) ∷
+    (0x24 ∷ 0x8d ∷ 0x6a ∷ 0x61 ∷ 0xd2 ∷ 0x06 ∷ 0x38 ∷ 0xb8 ∷ 0xe5 ∷ 0xc0 ∷ 0x26 ∷ 0x93 ∷ 0x0c ∷ 0x3e ∷ 0x60 ∷ 0x39 ∷ 0xa3 ∷ 0x3c ∷ 0xe4 ∷ 0x59 ∷ 0x64 ∷ 0xff ∷ 0x21 ∷ 0x67 ∷ 0xf6 ∷ 0xec ∷ 0xed ∷ 0xd4 ∷ 0x19 ∷ 0xdb ∷ 0x06 ∷ 0xc1 ∷ []) ∷
+    []
+
+-- a state that no message of ours left: another chain, the given bytes at the front of the tail, and 0xff behind them
+unfoldable pub passed : List ℕ → ℕ → Hasher
+passed t n =
+    record {
+      chain = 1 ∷ 2 ∷ 3 ∷ 4 ∷ 5 ∷ 6 ∷ 7 ∷ 8 ∷ [];
+      tail = t ++ replicate (64 - length t) 0xff;
+      length = n;
+    }
+
+-- the padding's length at the edges of a block
+abbrev pub PaddingsRow : Type 0
+PaddingsRow =
+    map (λ (n : ℕ). length (padding n)) (0 ∷ 1 ∷ 55 ∷ 56 ∷ 63 ∷ 64 ∷ 119 ∷ 120 ∷ (2 ^ 61 - 1) ∷ []) ≡ 64 ∷ 63 ∷ 9 ∷ 72 ∷ 65 ∷ 64 ∷ 9 ∷ 72 ∷ 65 ∷ []
+
+-- its last eight bytes: the length in bits, the most significant byte first
+abbrev pub LengthsRow : Type 0
+LengthsRow =
+    map (λ (n : ℕ). drop (length (padding n) - 8) (padding n)) (0x0001_0203_0405_0607 ∷ (2 ^ 61 - 1) ∷ []) ≡ (0 ∷ 8 ∷ 16 ∷ 24 ∷ 32 ∷ 40 ∷ 48 ∷ 56 ∷ []) ∷ (255 ∷ 255 ∷ 255 ∷ 255 ∷ 255 ∷ 255 ∷ 255 ∷ 248 ∷ []) ∷ []
+
+-- 17 above 2 ^ 61 - 1 bytes: for a message, for D, for a pool
+abbrev pub MessageLimitRow : Type 0
+MessageLimitRow =
+    map (lengthNumber maxMessage) (0 ∷ (2 ^ 61 - 1) ∷ (2 ^ 61) ∷ []) ≡ 0 ∷ 0 ∷ 17 ∷ []
+
+abbrev pub DoubleLimitRow : Type 0
+DoubleLimitRow =
+    map (lengthNumber maxDMessage) (0 ∷ (2 ^ 61 - 1) ∷ (2 ^ 61) ∷ []) ≡ 0 ∷ 0 ∷ 17 ∷ []
+
+abbrev pub PoolLimitRow : Type 0
+PoolLimitRow =
+    map (lengthNumber maxPoolLength) (0 ∷ (2 ^ 61 - 1) ∷ (2 ^ 61) ∷ []) ≡ 0 ∷ 0 ∷ 17 ∷ []
+
+-- the standard's messages
+abbrev pub StandardRow : Type 0
+StandardRow =
+    map sha256 messages ≡ digests
+
+-- the first four bytes of the digest of n times 'a'
+abbrev pub EdgesRow : Type 0
+EdgesRow =
+    map (λ (n : ℕ). take 4 (sha256 (replicate n 0x61))) (55 ∷ 56 ∷ 64 ∷ []) ≡
+    (0x9f ∷ 0x43 ∷ 0x90 ∷ 0xf8 ∷ []) ∷
+    (0xb3 ∷ 0x54 ∷ 0x39 ∷ 0xa4 ∷ []) ∷
+    (0xff ∷ 0xe0 ∷ 0x54 ∷ 0xfe ∷ []) ∷
+    []
+
+-- the first four bytes of D of the empty message and of 'abc'
+abbrev pub DoublesRow : Type 0
+DoublesRow =
+    map (λ (m : List ℕ). take 4 (D m)) ([] ∷ (0x61 ∷ 0x62 ∷ 0x63 ∷ []) ∷ []) ≡ (0x5d ∷ 0xf6 ∷ 0xe0 ∷ 0xe2 ∷ []) ∷ (0x4f ∷ 0x8b ∷ 0x42 ∷ 0xc2 ∷ []) ∷ []
+
+-- a state that was passed in, finished: what stands after its tail does not matter, its chain and its length do
+abbrev pub FinishesRow : Type 0
+FinishesRow =
+    map (λ (r : Hasher). take 4 (finish r)) (passed (9 ∷ 8 ∷ 7 ∷ 6 ∷ 5 ∷ []) 69 ∷ passed (replicate 63 9) (2 ^ 61 - 1) ∷ []) ≡
+    (0x61 ∷ 0xfc ∷ 0x69 ∷ 0x04 ∷ []) ∷ (0xe0 ∷ 0x49 ∷ 0xf5 ∷ 0x8a ∷ []) ∷ []
+
+-- a byte absorbed takes the place after the tail, and the rest becomes zeros
+abbrev pub AbsorbsRow : Type 0
+AbsorbsRow =
+    absorb (passed (9 ∷ 8 ∷ []) 66) (7 ∷ []) .tail ≡ 9 ∷ 8 ∷ 7 ∷ replicate 61 0
+
+abbrev pub LongestRow : Type 0
+LongestRow =
+    absorb (passed (replicate 62 9) (2 ^ 61 - 2)) (7 ∷ []) .length ≡ 2 ^ 61 - 1
+
+-- the rows together
+pub record Boundaries : Type 0 where
+  pub paddings : PaddingsRow
+  pub lengths : LengthsRow
+  pub messageLimit : MessageLimitRow
+  pub doubleLimit : DoubleLimitRow
+  pub poolLimit : PoolLimitRow
+  pub standard : StandardRow
+  pub edges : EdgesRow
+  pub doubles : DoublesRow
+  pub finishes : FinishesRow
+  pub absorbs : AbsorbsRow
+  pub longest : LongestRow
