@@ -1,0 +1,19 @@
+#include "fortuna.h"
+#include "work.h"
+#include <string.h>
+
+void work_sha256(const uint8_t *data, size_t length, uint8_t digest[32]) {
+    fortuna_sha256(data, length, digest);
+}
+
+void work_aes256(const uint8_t key[32], size_t count, uint8_t block[16]) {
+    fortuna_aes256_key k = fortuna_aes256_expand(key);
+    for (size_t i = 0; i < count; i++) fortuna_aes256_block(k, block);
+}
+
+void work_expand(uint8_t key[32], size_t count) {
+    for (size_t i = 0; i < count; i++) {
+        fortuna_aes256_key k = fortuna_aes256_expand(key);
+        memcpy(key, k.words + 208, 32);
+    }
+}

@@ -1,0 +1,332 @@
+#!/usr/bin/env python3
+"""The lines that the program `vectors` must print, worked out without it.
+
+    tests/vectors.py                  prints the lines
+    tests/vectors.py --check FILE     exits 1 where FILE differs, and says where
+
+SHA-256 is Python's hashlib, and for states that hashlib cannot start from a version written here from
+FIPS 180-4; AES-256 is written here from FIPS 197. Published values are literals, and each is asserted.
+Nothing but Python's standard library is needed."""
+import hashlib
+import sys
+
+MAX_MESSAGE = 2**61 - 1
+
+
+# ---- SHA-256 (FIPS 180-4)
+
+MASK = 0xFFFFFFFF
+
+
+def primes(count):
+    found = []
+    n = 2
+    while len(found) < count:
+        if all(n % p for p in found):
+            found.append(n)
+        n += 1
+    return found
+
+
+def root_fraction(n, root):
+    """The first 32 bits of the fraction of a root of n (4.2.2, 5.3.3)."""
+    scaled = n << (32 * root)
+    r = int(round(scaled ** (1 / root)))
+    while r**root > scaled:
+        r -= 1
+    while (r + 1) ** root <= scaled:
+        r += 1
+    return r & MASK
+
+
+K = [root_fraction(p, 3) for p in primes(64)]
+INITIAL = [root_fraction(p, 2) for p in primes(8)]
+
+
+def rotr(x, n):
+    return (x >> n | x << (32 - n)) & MASK
+
+
+def compress(chain, block):
+    """6.2.2."""
+    w = [int.from_bytes(block[i : i + 4], "big") for i in range(0, 64, 4)]
+    for t in range(16, 64):
+        s0 = rotr(w[t - 15], 7) ^ rotr(w[t - 15], 18) ^ w[t - 15] >> 3
+        s1 = rotr(w[t - 2], 17) ^ rotr(w[t - 2], 19) ^ w[t - 2] >> 10
+        w.append((s1 + w[t - 7] + s0 + w[t - 16]) & MASK)
+    a, b, c, d, e, f, g, h = chain
+    for t in range(64):
+        ch = e & f ^ ~e & g
+        maj = a & b ^ a & c ^ b & c
+        t1 = h + (rotr(e, 6) ^ rotr(e, 11) ^ rotr(e, 25)) + ch + K[t] + w[t]
+        t2 = (rotr(a, 2) ^ rotr(a, 13) ^ rotr(a, 22)) + maj
+        a, b, c, d, e, f, g, h = (t1 + t2) & MASK, a, b, c, (d + t1) & MASK, e, f, g
+    return [(x + y) & MASK for x, y in zip(chain, (a, b, c, d, e, f, g, h))]
+
+
+def finish(chain, unhashed, length):
+    """The digest from a hash value, the bytes after its blocks and the length of the whole message."""
+    zeros = -(len(unhashed) + 9) % 64
+    rest = unhashed + b"\x80" + bytes(zeros) + (8 * length).to_bytes(8, "big")
+    for i in range(0, len(rest), 64):
+        chain = compress(chain, rest[i : i + 64])
+    return b"".join(x.to_bytes(4, "big") for x in chain)
+
+
+def sha256(m):
+    digest = hashlib.sha256(m).digest()
+    if len(m) < 1000:
+        assert finish(INITIAL, m, len(m)) == digest
+    return digest
+
+
+def double_sha256(m):
+    return sha256(sha256(m))
+
+
+# ---- AES-256 (FIPS 197)
+
+
+def xtime(b):
+    return b << 1 ^ (0x11B if b & 0x80 else 0)
+
+
+def product(a, b):
+    r = 0
+    while a:
+        if a & 1:
+            r ^= b
+        a >>= 1
+        b = xtime(b)
+    return r
+
+
+def sub_byte(b):
+    """5.1.1: the inverse, then the affine map."""
+    inverse = next((c for c in range(256) if product(b, c) == 1), 0)
+    bits = inverse * 0x0101
+    return (inverse ^ bits >> 4 ^ bits >> 5 ^ bits >> 6 ^ bits >> 7 ^ 0x63) & 0xFF
+
+
+S_BOX = [sub_byte(b) for b in range(256)]
+
+
+def xor(a, b):
+    return bytes(x ^ y for x, y in zip(a, b))
+
+
+def expand_key(key):
+    """5.2: the 60 words."""
+    words = [key[i : i + 4] for i in range(0, 32, 4)]
+    constant = 1
+    for i in range(8, 60):
+        temp = words[-1]
+        if i % 8 == 0:
+            temp = bytes(S_BOX[b] for b in temp[1:] + temp[:1])
+            temp = bytes([temp[0] ^ constant]) + temp[1:]
+            constant = xtime(constant)
+        elif i % 8 == 4:
+            temp = bytes(S_BOX[b] for b in temp)
+        words.append(xor(words[i - 8], temp))
+    return words
+
+
+def mix_column(c):
+    return bytes(
+        product(2, c[r]) ^ product(3, c[(r + 1) % 4]) ^ c[(r + 2) % 4] ^ c[(r + 3) % 4]
+        for r in range(4)
+    )
+
+
+def encrypt(key, block):
+    """5.1."""
+    words = expand_key(key)
+    round_keys = [b"".join(words[i : i + 4]) for i in range(0, 60, 4)]
+    state = xor(block, round_keys[0])
+    for n in range(1, 15):
+        state = bytes(S_BOX[b] for b in state)
+        state = bytes(state[(i + 4 * (i % 4)) % 16] for i in range(16))
+        if n < 14:
+            state = b"".join(mix_column(state[i : i + 4]) for i in range(0, 16, 4))
+        state = xor(state, round_keys[n])
+    return state
+
+
+# ---- the lines
+
+PATTERN = bytes((7 * i + 3) % 251 for i in range(129))
+MESSAGES = [
+    ("empty", b"", "e3b0c44298fc1c149afbf4c8996fb92427ae41e4649b934ca495991b7852b855"),
+    ("abc", b"abc", "ba7816bf8f01cfea414140de5dae2223b00361a396177a9cb410ff61f20015ad"),
+    (
+        "448 bits",
+        b"abcdbcdecdefdefgefghfghighijhijkijkljklmklmnlmnomnopnopq",
+        "248d6a61d20638b8e5c026930c3e6039a33ce45964ff2167f6ecedd419db06c1",
+    ),
+    (
+        "896 bits",
+        b"abcdefghbcdefghicdefghijdefghijkefghijklfghijklmghijklmn"
+        b"hijklmnoijklmnopjklmnopqklmnopqrlmnopqrsmnopqrstnopqrstu",
+        "cf5b16a778af8380036ce59e7b0492370b249b11e8f07a51afac45037afee9d1",
+    ),
+    (
+        "million a",
+        b"a" * 1000000,
+        "cdc76e5c9914fb9281a1c7e284d73e67f1809a48a497200e046d39ccc7112cd0",
+    ),
+]
+
+
+def message_lines():
+    for title, m, published in MESSAGES:
+        assert sha256(m).hex() == published
+        yield f"sha256 {title}: {published}"
+
+
+def double_lines():
+    yield f"double empty: {double_sha256(b'').hex()}"
+    yield f"double abc: {double_sha256(b'abc').hex()}"
+    yield f"double pool abc: {double_sha256(b'abc').hex()}"
+
+
+def pattern_lines():
+    for n in range(len(PATTERN) + 1):
+        m = PATTERN[:n]
+        yield f"sha256 pattern {n}: {sha256(m).hex()}"
+        yield f"sha256 in two parts {n}: {sha256(m).hex()}"
+        yield f"double pattern {n}: {double_sha256(m).hex()}"
+        yield f"double joined {n}: {double_sha256(bytes(range(32)) + m).hex()}"
+
+
+# A state that no message is known for: another hash value, and a tail that has no zeros after its bytes.
+CHAIN = [0x01234567 + 0x11111111 * i & MASK for i in range(8)]
+TAIL = b"\xa5" * 64
+
+
+def state_digest(count):
+    return finish(CHAIN, TAIL[: count % 64], count)
+
+
+def state_lines():
+    for count in (192, 202, 247, 248, 255, MAX_MESSAGE):
+        yield f"state finish {count}: {state_digest(count).hex()}"
+    for count in (202, MAX_MESSAGE):
+        yield f"state pool {count}: {sha256(state_digest(count)).hex()}"
+    joined = TAIL[: 202 % 64] + PATTERN
+    yield f"state absorb 202: {finish(CHAIN, joined, 202 + len(PATTERN)).hex()}"
+
+
+def limit_lines():
+    for count, m in ((MAX_MESSAGE, b""), (MAX_MESSAGE, b"a"), (MAX_MESSAGE + 1, b""), (2**64 - 1, b"abc")):
+        refused = count + len(m) > MAX_MESSAGE
+        yield f"absorb answer {count} and {len(m)}: {17 if refused else 0}"
+    for count in (MAX_MESSAGE, MAX_MESSAGE + 1, 2**64 - 1):
+        yield f"finish answer {count}: {17 if count > MAX_MESSAGE else 0}"
+        yield f"pool answer {count}: {17 if count > MAX_MESSAGE else 0}"
+    yield f"refused digest: {bytes(32).hex()}"
+    yield f"refused state: {state_digest(MAX_MESSAGE).hex()}"
+
+
+# FIPS 197, C.3
+C3_KEY = bytes(range(32))
+C3_TEXT = bytes.fromhex("00112233445566778899aabbccddeeff")
+C3_CIPHER = "8ea2b7ca516745bfeafc49904b496089"
+
+# FIPS 197, A.3, and SP 800-38A, F.1.5 and F.5.5
+KEY = bytes.fromhex("603deb1015ca71be2b73aef0857d77811f352c073b6108d72d9810a30914dff4")
+TEXT = [
+    bytes.fromhex("6bc1bee22e409f96e93d7e117393172a"),
+    bytes.fromhex("ae2d8a571e03ac9c9eb76fac45af8e51"),
+    bytes.fromhex("30c81c46a35ce411e5fbc1191a0a52ef"),
+    bytes.fromhex("f69f2445df4f9b17ad2b417be66c3710"),
+]
+COUNTER = 0xF0F1F2F3F4F5F6F7F8F9FAFBFCFDFEFF
+ECB = [
+    "f3eed1bdb5d2a03c064b5a7e3db181f8",
+    "591ccb10d410ed26dc5ba74a31362870",
+    "b6ed21b99ca6f4f9f153e7b1beafed1d",
+    "23304b7a39f9f3ff067d8d8f9e24ecc7",
+]
+CTR = [
+    "601ec313775789a5b7a7f504bbf3d228",
+    "f443e3ca4d62b59aca84e990cacaf5c5",
+    "2b0930daa23de94ce87017ba2d84988d",
+    "dfc9c58db67aada613c2dd08457941a6",
+]
+# FIPS 197, A.3: the words that the standard lists after the key's own
+A3_WORDS = """
+9ba35411 8e6925af a51a8b5f 2067fcde a8b09c1a 93d194cd be49846e b75d5b9a
+d59aecb8 5bf3c917 fee94248 de8ebe96 b5a9328a 2678a647 98312229 2f6c79b3
+812c81ad dadf48ba 24360af2 fab8b464 98c5bfc9 bebd198e 268c3ba7 09e04214
+68007bac b2df3316 96e939e4 6c518d80 c814e204 76a9fb8a 5025c02d 59c58239
+de136967 6ccc5a71 fa256395 9674ee15 5886ca5d 2e2f31d7 7e0af1fa 27cf73c3
+749c47ab 18501dda e2757e4f 7401905a cafaaae3 e4d59b34 9adf6ace bd10190d
+fe4890d1 e6188d0b 046df344 706c631e
+""".split()
+
+
+def cipher_lines():
+    assert encrypt(C3_KEY, C3_TEXT).hex() == C3_CIPHER
+    yield f"aes256 C.3: {C3_CIPHER}"
+    for n, (block, published) in enumerate(zip(TEXT, ECB), 1):
+        assert encrypt(KEY, block).hex() == published
+        yield f"aes256 ECB {n}: {published}"
+    for n, (block, published) in enumerate(zip(TEXT, CTR), 1):
+        stream = encrypt(KEY, (COUNTER + n - 1).to_bytes(16, "big"))
+        assert xor(stream, block).hex() == published
+        yield f"aes256 CTR {n}: {published}"
+
+
+def schedule_lines():
+    words = [w.hex() for w in expand_key(KEY)]
+    assert words[8:] == A3_WORDS
+    for i, word in enumerate(words):
+        yield f"aes256 word {i}: {word}"
+
+
+def writer_lines():
+    block = encrypt(KEY, TEXT[0])
+    for n in range(19):
+        part = block[:n].ljust(18, b"\xee")
+        yield f"aes256 part {n}: {part.hex()}"
+
+
+def lines():
+    yield from message_lines()
+    yield from double_lines()
+    yield from pattern_lines()
+    yield from state_lines()
+    yield from limit_lines()
+    yield from cipher_lines()
+    yield from schedule_lines()
+    yield from writer_lines()
+
+
+def check(path):
+    with open(path, encoding="ascii") as f:
+        found = f.read().split("\n")
+    expected = list(lines()) + [""]
+    for n, (a, b) in enumerate(zip(expected, found), 1):
+        if a != b:
+            return f"{path}:{n}: expected '{a}', found '{b}'"
+    if len(expected) != len(found):
+        return f"{path}: expected {len(expected) - 1} lines, found {len(found) - 1}"
+    return None
+
+
+def main(args):
+    if not args:
+        print("\n".join(lines()))
+        return 0
+    if len(args) != 2 or args[0] != "--check":
+        print(__doc__, file=sys.stderr)
+        return 2
+    difference = check(args[1])
+    if difference:
+        print(difference, file=sys.stderr)
+        return 1
+    return 0
+
+
+if __name__ == "__main__":
+    sys.exit(main(sys.argv[1:]))
