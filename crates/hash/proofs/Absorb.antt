@@ -1,8 +1,8 @@
 -- The running hash: what each way through `extended` and `finished` leaves, and the laws of `absorb` and `finish`.
 -- Assumes nothing.
-use mathlib.Core.Path.{_≡_, refl, ap, ap₂, sym, subst, _∙_}
+use mathlib.Core.Path.{_≡_, refl, ap, ap₂, sym, _∙_}
 use mathlib.Core.List.{List, [], _∷_, _++_, append-assoc, append-nil}
-use Prim.Native.Nat.{ℕ, zero, suc, _+_, _-_, _*_, _/_, _%_, _^_, _≤_, _<_}
+use Prim.Native.Nat.{ℕ, suc, _+_, _-_, _*_, _/_, _%_, _≤_, _<_}
 use native.Mathlib.Nat.{div-eq-of-lt, add-assoc, le-of-eq, zero-add}
 use native.Mathlib.Omega.{arith}
 use lib.ListN.{length, take, drop, replicate, length-append, length-drop, length-replicate, take-append-drop}
@@ -10,7 +10,6 @@ use lib.Seq.{take-all, take-at, drop-at, drop-drop, length-take-le}
 use Rattle.laws.specs.Lists.{tabulate}
 use Rattle.laws.proofs.Tabulate.{length-tabulate}
 use Rattle.laws.proofs.Copy.{part-end}
-use Rattle.hash.specs.Constants.{H⁰}
 use Rattle.hash.specs.Padding.{lengthByte, padding}
 use Rattle.hash.specs.Block.{compress}
 use Rattle.hash.specs.Sha256.{wordsByte, blocks, digestFrom, sha256}

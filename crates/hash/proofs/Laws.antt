@@ -2,10 +2,10 @@
 -- Assumes nothing.
 use mathlib.Core.Path.{_≡_, refl, sym, ap, _∙_}
 use mathlib.Core.List.{List, [], _++_}
-use Prim.Native.Nat.{ℕ, _+_, _-_, _*_, _/_, _%_, _^_, _≤_, _<_}
-use native.Mathlib.Nat.{zero-add, div-eq-of-lt}
+use Prim.Native.Nat.{ℕ, _+_, _-_, _*_, _/_, _%_, _≤_, _<_}
+use native.Mathlib.Nat.{div-eq-of-lt}
 use native.Mathlib.Omega.{arith}
-use lib.ListN.{length, take, drop, replicate, length-append, length-drop, length-replicate}
+use lib.ListN.{length, drop, replicate, length-append, length-drop, length-replicate}
 use lib.Dec.{lit≤}
 use lib.Seq.{drop-at}
 use borrow.Author.Tests.{le-ltb}
@@ -53,15 +53,19 @@ pub empty-is : emptyHasher ≡ hasherOf []
 unfolding emptyHasher hasherOf absorbFrom blocks zeroFilled
 empty-is = refl
 
+-- the state that a message leaves, from the empty one
+pub absorb-empty : (m : List ℕ) → absorb emptyHasher m ≡ hasherOf m
+absorb-empty m = Absorb.absorb-empty m
+
 pub empty-length : emptyHasher .length ≡ 0
 unfolding emptyHasher
 empty-length = refl
 
 pub absorb-hasher : (m d : List ℕ) → absorb (hasherOf m) d ≡ hasherOf (m ++ d)
-absorb-hasher m d = rw (← Absorb.absorb-empty m, ← Absorb.absorb-empty (m ++ d)) (absorb-append emptyHasher m d Absorb.empty-long)
+absorb-hasher m d = rw (← absorb-empty m, ← absorb-empty (m ++ d)) (absorb-append emptyHasher m d Absorb.empty-long)
 
 pub finish-hasher : (m : List ℕ) → finish (hasherOf m) ≡ sha256 m
-finish-hasher m = rw (← Absorb.absorb-empty m) (Absorb.finish-empty m)
+finish-hasher m = rw (← absorb-empty m) (Absorb.finish-empty m)
 
 hasher-length : (m : List ℕ) → hasherOf m .length ≡ length m
 unfolding hasherOf absorbFrom
@@ -90,12 +94,12 @@ hasher-short m h =
 
 pub pool-empty : emptyPool ≡ poolOf []
 unfolding emptyPool poolOf
-pool-empty = empty-is ∙ sym (Absorb.absorb-empty [])
+pool-empty = empty-is ∙ sym (absorb-empty [])
 
 -- the same state as a hasher's, until D changes
 pool-is : (m : List ℕ) → poolOf m ≡ hasherOf m
 unfolding poolOf emptyPool
-pool-is m = Absorb.absorb-empty m
+pool-is m = absorb-empty m
 
 pub absorb-pool : (m d : List ℕ) → absorb (poolOf m) d ≡ poolOf (m ++ d)
 absorb-pool m d = rw (pool-is m, pool-is (m ++ d)) (absorb-hasher m d)

@@ -1,16 +1,15 @@
 -- Messages in blocks: the laws of `blocks` and `absorbFrom`.
 -- Assumes nothing.
-use mathlib.Core.Path.{_≡_, refl, ap, ap₂, sym, subst, _∙_}
-use mathlib.Core.List.{List, [], _∷_, _++_}
-use Prim.Native.Nat.{ℕ, zero, suc, _+_, _-_, _*_, _/_, _%_, _^_, _≤_, _<_}
-use native.Mathlib.Nat.{add-sub-cancel-left, zero-add, suc-add, le-of-eq}
+use mathlib.Core.Path.{_≡_, refl, ap, ap₂, _∙_}
+use mathlib.Core.List.{List, _++_}
+use Prim.Native.Nat.{ℕ, zero, suc, _+_, _-_, _*_, _/_, _≤_}
+use native.Mathlib.Nat.{add-sub-cancel-left, zero-add, suc-add}
 use native.Mathlib.Omega.{arith}
 use lib.ListN.{length, take, drop, length-append, length-drop}
-use lib.Seq.{drop-drop, take-append-le, drop-append-le, take-all, take-at, drop-at}
+use lib.Seq.{drop-drop, take-append-le, drop-append-le}
 use Rattle.hash.specs.Block.{compress}
 use Rattle.hash.specs.Sha256.{blocks}
 use Rattle.hash.specs.Hasher.{absorbFrom}
-use Rattle.hash.specs.declared.hasher.Hasher.{Hasher}
 
 -- ---- the loop over the blocks of m
 

@@ -1,14 +1,14 @@
 -- The statements of specs/Statements.antt hold.
 -- Assumes nothing.
-use mathlib.Core.Path.{_≡_, refl}
-use mathlib.Core.List.{List, _∷_}
-use Prim.Native.Nat.{ℕ, _+_, _*_, _%_, _≤_}
+use mathlib.Core.Path.{refl}
+use mathlib.Core.List.{List}
+use Prim.Native.Nat.{ℕ}
 use native.Mathlib.Omega.{arith}
-use lib.ListN.{length, replicate, length-append, length-replicate}
+use lib.ListN.{length-append, length-replicate}
 use Rattle.laws.proofs.Tabulate.{length-tabulate}
-use Rattle.hash.specs.Padding.{lengthByte, zeroBytes, padding}
+use Rattle.hash.specs.Padding.{zeroBytes, padding}
 use Rattle.hash.specs.Answers.{number}
-use Rattle.hash.specs.Statements.{PaddingLeast, PaddedWhole, NumberInjective, zeroBits, Solves}
+use Rattle.hash.specs.Statements.{PaddingLeast, PaddedWhole, NumberInjective}
 use Rattle.hash.specs.declared.answer.Answer.the-variants.{Done, TooLong}
 
 pub padding-least : (n : ℕ) → PaddingLeast n

@@ -15,7 +15,7 @@ use crate::tail::with_length;
 ghost use mathlib.Core.Path.{_≡_};
 ghost use Prim.Native.Nat.{_+_, _/_, _≤_};
 ghost use lib.ListN.{length};
-ghost use Rattle.hash.specs.Constants.{H⁰, K};
+ghost use Rattle.hash.specs.Constants.{K};
 ghost use Rattle.hash.specs.Sha256.{blocks};
 ghost use Rattle.hash.specs.Hasher.{emptyHasher, absorbFrom, absorb, finish};
 ghost use Rattle.hash.specs.Double.{maxMessage, maxPoolLength, emptyPool, poolDigest};

@@ -1,10 +1,8 @@
 -- `laws::overwrite` meets its contract.
 -- Assumes nothing.
 use mathlib.Core.Logic.{⊎-elim}
-use mathlib.Core.Path.{_≡_}
-use Prim.Native.Nat.{_-_, _≤_, _<_}
+use Prim.Native.Nat.{_-_, _≤_}
 use native.Mathlib.Omega.{arith}
-use lib.ListN.{length}
 use borrow.Author.Needs.{needs}
 use Rattle.laws.proofs.Copy.{Copied, copied-none, copied-more, copied-all, copied-cut}
 use Rattle.laws.proofs.overwrite.Statement.{statement}

@@ -1,6 +1,6 @@
 -- `hash::block::round_at` meets its contract.
 -- Assumes nothing.
-use mathlib.Core.Path.{_≡_, _∙_}
+use mathlib.Core.Path.{_∙_}
 use borrow.Author.Needs.{needs}
 use Rattle.hash.proofs.block.round_at.Statement.{statement}
 use Rattle.hash.proofs.block.round_at.Tie as tie

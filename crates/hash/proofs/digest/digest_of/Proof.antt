@@ -1,6 +1,6 @@
 -- `hash::digest::digest_of` meets its contract.
 -- Assumes nothing.
-use mathlib.Core.Path.{_≡_, _∙_}
+use mathlib.Core.Path.{_∙_}
 use native.Mathlib.Nat.{zero-add}
 use Rattle.hash.proofs.Absorb.{finish-empty}
 use Rattle.hash.proofs.Laws.{empty-length}

@@ -1,6 +1,6 @@
 -- `hash::digest::double_of` meets its contract.
 -- Assumes nothing.
-use mathlib.Core.Path.{_≡_, _∙_}
+use mathlib.Core.Path.{_∙_}
 use native.Mathlib.Nat.{zero-add}
 use native.Mathlib.Omega.{arith}
 use Rattle.hash.proofs.Laws.{absorb-length, pool-empty-length, pool-digest-joined, d-message-fits}

@@ -1,6 +1,6 @@
 -- `hash::digest::double_sha256_joined` meets its contract.
 -- Assumes nothing.
-use mathlib.Core.Path.{_≡_, sym, _∙_}
+use mathlib.Core.Path.{sym, _∙_}
 use borrow.Author.Tests.{ltb-false}
 use Rattle.hash.specs.Double.{maxMessage, maxDMessage}
 use Rattle.hash.proofs.Answers.{hash-refused, hash-accepted}

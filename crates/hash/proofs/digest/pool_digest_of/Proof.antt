@@ -1,6 +1,6 @@
 -- `hash::digest::pool_digest_of` meets its contract.
 -- Assumes nothing.
-use mathlib.Core.Path.{_≡_, _∙_}
+use mathlib.Core.Path.{_∙_}
 use Rattle.hash.specs.Double.{maxMessage, poolDigest}
 use borrow.Author.Needs.{needs}
 use Rattle.hash.proofs.digest.pool_digest_of.Statement.{statement}

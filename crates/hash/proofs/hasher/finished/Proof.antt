@@ -1,6 +1,6 @@
 -- `hash::hasher::finished` meets its contract.
 -- Assumes nothing.
-use mathlib.Core.Path.{_≡_, _∙_}
+use mathlib.Core.Path.{_∙_}
 use Rattle.hash.proofs.Absorb.{finish-one, finish-two}
 use borrow.Author.Needs.{needs}
 use Rattle.hash.proofs.hasher.finished.Statement.{statement}

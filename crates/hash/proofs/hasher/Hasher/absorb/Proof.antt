@@ -1,6 +1,6 @@
 -- `hash::hasher::Hasher::absorb` meets its contract.
 -- Assumes nothing.
-use mathlib.Core.Path.{_≡_, sym, _∙_}
+use mathlib.Core.Path.{sym, _∙_}
 use borrow.Author.Tests.{ltb-false}
 use Rattle.hash.specs.Double.{maxMessage}
 use Rattle.hash.specs.Answers.{number}
