@@ -1,6 +1,8 @@
 // The steps of a round, on a state by value.
 ghost use mathlib.Core.Path.{_≡_};
+ghost use mathlib.Core.List.{[], _∷_};
 ghost use Prim.Native.Nat.{_<_};
+ghost use Rattle.laws.specs.Lists.{tabulate};
 ghost use Rattle.cipher.specs.Field.{sBox};
 ghost use Rattle.cipher.specs.Aes.{subBytes, shiftRows, mixedByte, mixColumns, addRoundKey};
 use crate::field::double;
@@ -27,27 +29,48 @@ pub(crate) fn shift_rows(state: [u8; 16]) -> [u8; 16]
     r
 }
 
-// Byte i after MixColumns; {03} times a byte is its double and itself.
-fn mixed_byte(state: [u8; 16], i: usize) -> u8
-    requires { ⌜ i < 16 ⌝ }
-    ensures { λ r. ⌜ r ≡ mixedByte state i ⌝ }
+// A column after MixColumns, from its four bytes; {03} times a byte is its double and itself.
+fn mixed_column(a: u8, b: u8, c: u8, d: u8) -> [u8; 4]
+    ensures { λ r. ⌜ r ≡ tabulate (mixedByte (a ∷ b ∷ c ∷ d ∷ [])) 4 ⌝ }
 {
-    let column = i / 4 * 4;
-    let below = state[column + (i + 1) % 4];
-    double(state[i])
-        ^ (double(below) ^ below)
-        ^ state[column + (i + 2) % 4]
-        ^ state[column + (i + 3) % 4]
+    let a2 = double(a);
+    let b2 = double(b);
+    let c2 = double(c);
+    let d2 = double(d);
+    [
+        a2 ^ (b2 ^ b) ^ c ^ d,
+        b2 ^ (c2 ^ c) ^ d ^ a,
+        c2 ^ (d2 ^ d) ^ a ^ b,
+        d2 ^ (a2 ^ a) ^ b ^ c,
+    ]
 }
 
+// Column after column, at constant places.
 pub(crate) fn mix_columns(state: [u8; 16]) -> [u8; 16]
     ensures { λ r. ⌜ r ≡ mixColumns state ⌝ }
 {
-    let mut r = [0u8; 16];
-    for i in 0..16 {
-        r[i] = mixed_byte(state, i);
-    }
-    r
+    let s = mixed_column(state[0], state[1], state[2], state[3]);
+    let t = mixed_column(state[4], state[5], state[6], state[7]);
+    let u = mixed_column(state[8], state[9], state[10], state[11]);
+    let v = mixed_column(state[12], state[13], state[14], state[15]);
+    [
+        s[0],
+        s[1],
+        s[2],
+        s[3],
+        t[0],
+        t[1],
+        t[2],
+        t[3],
+        u[0],
+        u[1],
+        u[2],
+        u[3],
+        v[0],
+        v[1],
+        v[2],
+        v[3],
+    ]
 }
 
 // Round key n of the schedule is added.

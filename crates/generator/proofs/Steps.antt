@@ -1,0 +1,55 @@
+-- The closed forms are GENERATEBLOCKS and PSEUDORANDOMDATA.
+-- Assumes nothing.
+use mathlib.Core.Path.{_≡_, refl, sym, ap, _∙_}
+use mathlib.Core.List.{List, [], _∷_, _++_, map}
+use Prim.Native.Nat.{ℕ, zero, suc, _+_}
+use native.Mathlib.Nat.{add-zero, zero-add, suc-add, add-assoc}
+use native.Mathlib.Omega.{arith}
+use Rattle.cipher.specs.Aes.{cipher}
+use Rattle.generator.specs.Counter.{counterBlock}
+use Rattle.generator.specs.Steps.{GeneratorState, Generated, generateBlocks, blockCount, blockData, pseudoRandomData}
+use Rattle.generator.specs.Closed.{counters, enciphered, blocksFrom, afterBlocks, output, rekeyed, closedBlockData, closedRandomData}
+
+-- k Block steps in closed form
+closedBlocks : GeneratorState → ℕ → Generated
+closedBlocks w k =
+    record { bytes = blocksFrom (w .key) (w .count) k; next = afterBlocks w k; trace = map counterBlock (counters (w .count) k) }
+
+state-equal : (w v : GeneratorState) → w .key ≡ v .key → w .count ≡ v .count → w ≡ v
+state-equal w v p q = λ i. record { key = p i; count = q i }
+
+generated-equal : (x y : Generated) → x .bytes ≡ y .bytes → x .next ≡ y .next → x .trace ≡ y .trace → x ≡ y
+generated-equal x y p q r = λ i. record { bytes = p i; next = q i; trace = r i }
+
+blocks-closed : (k : ℕ) (w : GeneratorState) → generateBlocks w k ≡ closedBlocks w k
+unfolding generateBlocks closedBlocks blocksFrom afterBlocks enciphered counters
+blocks-closed zero w = generated-equal _ _ refl (state-equal _ _ refl (sym (add-zero (w .count)))) refl
+blocks-closed (suc k) w =
+    let r = blocks-closed k (record { key = w .key; count = w .count + 1 }) in
+    generated-equal _ _
+    (ap (λ (g : Generated). cipher (w .key) (counterBlock (w .count)) ++ g .bytes) r)
+    (ap (λ (g : Generated). g .next) r ∙ state-equal _ _ refl (omega arith))
+    (ap (λ (g : Generated). counterBlock (w .count) ∷ g .trace) r)
+
+pub block-data-closed : (w : GeneratorState) (n : ℕ) → blockData w n ≡ closedBlockData w n
+unfolding blockData closedBlockData output closedBlocks
+block-data-closed w n = rw (blocks-closed (blockCount n) w)
+
+map-join : (a b : List ℕ) → map counterBlock (a ++ b) ≡ map counterBlock a ++ map counterBlock b
+map-join [] b = refl
+map-join (x ∷ a) b = ap {B = List (List ℕ)} (λ l. counterBlock x ∷ l) (map-join a b)
+
+counters-add : (c j k : ℕ) → counters c (j + k) ≡ counters c j ++ counters (c + j) k
+unfolding counters
+counters-add c zero k = rw (zero-add, add-zero)
+counters-add c (suc j) k =
+    let e : c + 1 + j ≡ c + suc j = omega arith in
+    rw (suc-add j k, ← e) (ap (λ (l : List ℕ). c ∷ l) (counters-add (c + 1) j k))
+
+pub random-data-closed : (w : GeneratorState) (n : ℕ) → pseudoRandomData w n ≡ closedRandomData w n
+unfolding pseudoRandomData closedRandomData rekeyed closedBlockData afterBlocks closedBlocks
+random-data-closed w n =
+    let c = w .count in
+    let k = blockCount n in
+    rw (block-data-closed w n, blocks-closed 2 (afterBlocks w k))
+    (generated-equal _ _ refl (state-equal _ _ refl (add-assoc c k 2)) (sym (map-join (counters c k) (counters (c + k) 2)) ∙ ap (map counterBlock) (sym (counters-add c k 2))))

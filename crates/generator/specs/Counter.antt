@@ -1,0 +1,22 @@
+-- C as 16 bytes, least significant first, and as the number that they stand for (004, 9.4.2).
+-- Assumes nothing.
+use mathlib.Core.List.{List, [], _∷_}
+use Prim.Native.Nat.{ℕ, zero, suc, _+_, _*_, _/_, _%_, _^_, _-_}
+
+-- the sum of p_i 2^(8 i)
+unfoldable pub value : List ℕ → ℕ
+value [] = 0
+value (p ∷ ps) = p + 256 * value ps
+
+-- the n least significant bytes of v, least significant first
+unfoldable pub littleEndian : ℕ → ℕ → List ℕ
+littleEndian zero v = []
+littleEndian (suc n) v = v % 256 ∷ littleEndian n (v / 256)
+
+-- the largest value of C
+unfoldable pub maxCounter : ℕ
+maxCounter = 2 ^ 128 - 1
+
+-- the 16 bytes of a value of C: what the cipher is handed, 01's counter block
+unfoldable pub counterBlock : ℕ → List ℕ
+counterBlock c = littleEndian 16 c

@@ -1,0 +1,39 @@
+-- What is proved of the generator's definitions beside its code.
+-- Assumes nothing.
+use mathlib.Core.Path.{_≡_}
+use mathlib.Core.List.{List, []}
+use Prim.Native.Nat.{ℕ, _≤_, _<_}
+use lib.ListN.{length, getD}
+use Rattle.generator.specs.Counter.{value, littleEndian, maxCounter}
+use Rattle.generator.specs.Steps.{GeneratorState, blockData, pseudoRandomData, generateBlocks}
+use Rattle.generator.specs.Closed.{closedBlockData, closedRandomData, afterBlocks}
+use Rattle.generator.specs.Operations.{number, blocksMade}
+use Rattle.generator.specs.declared.Generator.{Generator}
+use Rattle.generator.specs.declared.answer.Answer.{Answer}
+
+-- C as bytes and C as a number are the same thing
+pub record CounterEncoding : Type 0 where
+  -- the bytes of the value of 16 bytes are those bytes
+  pub bytesOfValue : (ps : List ℕ) → length ps ≡ 16 → ((i : ℕ) → getD ps i 0 < 256) → littleEndian 16 (value ps) ≡ ps
+  -- the value of the bytes of a value of C is that value
+  pub valueOfBytes : (c : ℕ) → c ≤ maxCounter → value (littleEndian 16 c) ≡ c
+  -- different values have different bytes
+  pub different : (c d : ℕ) → c ≤ maxCounter → d ≤ maxCounter → littleEndian 16 c ≡ littleEndian 16 d → c ≡ d
+
+-- the traced machine and the closed form are equal: bytes, next K, next C and trace
+pub record ClosedForm (w : GeneratorState) (n : ℕ) : Type 0 where
+  pub blocks : blockData w n ≡ closedBlockData w n
+  pub request : pseudoRandomData w n ≡ closedRandomData w n
+
+-- advancing by 0 blocks changes nothing
+pub record NoBlocks (w : GeneratorState) : Type 0 where
+  pub advanced : afterBlocks w 0 ≡ w
+  pub generated : generateBlocks w 0 .next ≡ w
+
+-- nor does the block operation on no bytes, accepted or refused, for every state that 16 bytes of counter can hold
+abbrev pub NothingAsked : Generator → Type 0
+NothingAsked g = length (g .counter) ≡ 16 → ((i : ℕ) → getD (g .counter) i 0 < 256) → blocksMade g [] ≡ g
+
+-- different answers have different numbers
+abbrev pub NumberInjective : Type 0
+NumberInjective = (a b : Answer) → number a ≡ number b → a ≡ b
