@@ -5,10 +5,13 @@
     tests/vectors.py --check FILE     exits 1 where FILE differs, and says where
 
 SHA-256 is Python's hashlib, and for states that hashlib cannot start from a version written here from
-FIPS 180-4; AES-256 is written here from FIPS 197. Published values are literals, and each is asserted.
-Nothing but Python's standard library is needed."""
+FIPS 180-4; AES-256 is tests/aes256.py, written from FIPS 197, and the generator tests/generator.py. Published values
+are literals, and each is asserted. Nothing but Python's standard library is needed."""
 import hashlib
 import sys
+
+import generator_lines
+from aes256 import encrypt, encrypt_blocks, expand_key, xor
 
 MAX_MESSAGE = 2**61 - 1
 
@@ -82,74 +85,6 @@ def sha256(m):
 
 def double_sha256(m):
     return sha256(sha256(m))
-
-
-# ---- AES-256 (FIPS 197)
-
-
-def xtime(b):
-    return b << 1 ^ (0x11B if b & 0x80 else 0)
-
-
-def product(a, b):
-    r = 0
-    while a:
-        if a & 1:
-            r ^= b
-        a >>= 1
-        b = xtime(b)
-    return r
-
-
-def sub_byte(b):
-    """5.1.1: the inverse, then the affine map."""
-    inverse = next((c for c in range(256) if product(b, c) == 1), 0)
-    bits = inverse * 0x0101
-    return (inverse ^ bits >> 4 ^ bits >> 5 ^ bits >> 6 ^ bits >> 7 ^ 0x63) & 0xFF
-
-
-S_BOX = [sub_byte(b) for b in range(256)]
-
-
-def xor(a, b):
-    return bytes(x ^ y for x, y in zip(a, b))
-
-
-def expand_key(key):
-    """5.2: the 60 words."""
-    words = [key[i : i + 4] for i in range(0, 32, 4)]
-    constant = 1
-    for i in range(8, 60):
-        temp = words[-1]
-        if i % 8 == 0:
-            temp = bytes(S_BOX[b] for b in temp[1:] + temp[:1])
-            temp = bytes([temp[0] ^ constant]) + temp[1:]
-            constant = xtime(constant)
-        elif i % 8 == 4:
-            temp = bytes(S_BOX[b] for b in temp)
-        words.append(xor(words[i - 8], temp))
-    return words
-
-
-def mix_column(c):
-    return bytes(
-        product(2, c[r]) ^ product(3, c[(r + 1) % 4]) ^ c[(r + 2) % 4] ^ c[(r + 3) % 4]
-        for r in range(4)
-    )
-
-
-def encrypt(key, block):
-    """5.1."""
-    words = expand_key(key)
-    round_keys = [b"".join(words[i : i + 4]) for i in range(0, 60, 4)]
-    state = xor(block, round_keys[0])
-    for n in range(1, 15):
-        state = bytes(S_BOX[b] for b in state)
-        state = bytes(state[(i + 4 * (i % 4)) % 16] for i in range(16))
-        if n < 14:
-            state = b"".join(mix_column(state[i : i + 4]) for i in range(0, 16, 4))
-        state = xor(state, round_keys[n])
-    return state
 
 
 # ---- the lines
@@ -267,6 +202,7 @@ fe4890d1 e6188d0b 046df344 706c631e
 
 def cipher_lines():
     assert encrypt(C3_KEY, C3_TEXT).hex() == C3_CIPHER
+    assert encrypt_blocks(KEY, b"".join(TEXT)).hex() == "".join(ECB)
     yield f"aes256 C.3: {C3_CIPHER}"
     for n, (block, published) in enumerate(zip(TEXT, ECB), 1):
         assert encrypt(KEY, block).hex() == published
@@ -300,6 +236,7 @@ def lines():
     yield from cipher_lines()
     yield from schedule_lines()
     yield from writer_lines()
+    yield from generator_lines.lines(PATTERN)
 
 
 def check(path):

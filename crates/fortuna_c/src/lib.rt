@@ -1,9 +1,16 @@
 // The C interface: include/fortuna.h says the same in C's words.
 mod aes256;
+mod fortuna_generator;
 mod sha256;
 
 pub use aes256::Aes256Key;
 pub use aes256::fortuna_aes256_block;
 pub use aes256::fortuna_aes256_expand;
+pub use fortuna_generator::FortunaGenerator;
+pub use fortuna_generator::FortunaGeneratorOutcome;
+pub use fortuna_generator::fortuna_generator_blocks;
+pub use fortuna_generator::fortuna_generator_new;
+pub use fortuna_generator::fortuna_generator_request;
+pub use fortuna_generator::fortuna_generator_reseed;
 pub use sha256::fortuna_double_sha256;
 pub use sha256::fortuna_sha256;

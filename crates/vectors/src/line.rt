@@ -53,3 +53,19 @@ pub(crate) fn answer_and(title: &[u8], n: u64, more: u64, number: u32) {
     decimal(n);
     answer(b" and", more, number);
 }
+
+// A part of a line: a text and a number.
+pub(crate) fn word(text: &[u8], n: u64) {
+    write(text);
+    decimal(n);
+}
+
+// A part of a line: a text and bytes.
+pub(crate) fn bytes(text: &[u8], bytes: &[u8]) {
+    write(text);
+    hexadecimal(bytes);
+}
+
+pub(crate) fn end() {
+    write(b"\n");
+}

@@ -1,11 +1,18 @@
-// Test vectors of SHA-256, D and AES-256, a line each. tests/vectors.py works out the same lines without this program.
+// Test vectors of SHA-256, D, AES-256 and the generator, a line each. tests/vectors.py works out the same lines without this program.
 mod blocks;
+mod call;
+mod carry;
+mod chain;
+mod given;
+mod large;
 mod limits;
 mod line;
 mod message;
 mod parts;
 mod pattern;
+mod refused;
 mod schedule;
+mod seeded;
 mod state;
 mod text;
 mod writer;
@@ -23,4 +30,12 @@ fn main() {
     blocks::ctr();
     schedule::words();
     writer::parts();
+    seeded::runs();
+    chain::shown();
+    chain::thousand();
+    carry::bytes();
+    refused::malformed();
+    refused::unseeded();
+    refused::spent();
+    large::runs();
 }
