@@ -9,7 +9,7 @@ use Rattle.hash.specs.Sha256.{blocks, digestFrom, sha256}
 use Rattle.hash.specs.Hasher.{zeroFilled, absorbFrom, absorb, finish}
 use Rattle.hash.specs.Double.{maxMessage, maxDMessage, maxPoolLength, D}
 use Rattle.hash.specs.Answers.{lengthNumber}
-use Rattle.hash.specs.Boundaries.{messages, digests, passed, PaddingsRow, LengthsRow, MessageLimitRow, DoubleLimitRow, PoolLimitRow, StandardRow, EdgesRow, DoublesRow, FinishesRow, AbsorbsRow, LongestRow, Boundaries}
+use Rattle.hash.specs.Boundaries.{messages, digests, passed, PaddingsRow, LengthsRow, MessageLimitRow, DoubleLimitRow, PoolLimitRow, StandardRow, EdgesRow, DoubleRow, FinishesRow, AbsorbsRow, LongestRow, Boundaries}
 
 paddings : PaddingsRow
 unfolding tabulate zeroBytes padding
@@ -39,9 +39,9 @@ edges : EdgesRow
 unfolding tabulate K H⁰ nextWord schedule T₁ T₂ round rounds compress blocks digestFrom zeroBytes padding sha256
 edges = refl
 
-doubles : DoublesRow
+double : DoubleRow
 unfolding tabulate K H⁰ nextWord schedule T₁ T₂ round rounds compress blocks digestFrom zeroBytes padding sha256 D
-doubles = refl
+double = refl
 
 finishes : FinishesRow
 unfolding tabulate K H⁰ nextWord schedule T₁ T₂ round rounds compress blocks digestFrom zeroBytes padding sha256 finish passed
@@ -65,7 +65,7 @@ boundaries =
       poolLimit = pool-limit;
       standard = standard;
       edges = edges;
-      doubles = doubles;
+      double = double;
       finishes = finishes;
       absorbs = absorbs;
       longest = longest;
