@@ -3,3 +3,4 @@ pub mod Tabulate
 pub mod Tables
 pub mod Copy
 pub mod Refusals
+pub mod Lists

@@ -1,6 +1,6 @@
 -- Lists that several crates speak of. Past its end a list reads as 0 (`getD s i 0`), and `take` and `drop` stop there.
 -- Assumes nothing.
-use mathlib.Core.Bool.{Bool, true, _&&_}
+use mathlib.Core.Bool.{Bool, true, false, _&&_}
 use mathlib.Core.List.{List, [], _∷_, _++_}
 use Prim.Native.Nat.{ℕ, zero, suc}
 use lib.Dec.{eqb}
@@ -19,3 +19,15 @@ overwrite d s = take (length d) s ++ drop (length s) d
 unfoldable pub allZero : List ℕ → Bool
 allZero [] = true
 allZero (x ∷ xs) = eqb x 0 && allZero xs
+
+-- the same elements in the same order
+unfoldable pub sameList : List ℕ → List ℕ → Bool
+sameList [] [] = true
+sameList [] (y ∷ ys) = false
+sameList (x ∷ xs) [] = false
+sameList (x ∷ xs) (y ∷ ys) = eqb x y && sameList xs ys
+
+-- what f gives at each element, joined
+unfoldable pub joined : {A B : Type 0} → (A → List B) → List A → List B
+joined f [] = []
+joined f (x ∷ xs) = f x ++ joined f xs

@@ -1,0 +1,68 @@
+-- The refusals, two chains for each call, over plain values: input numbers, then state numbers, within each list the lower first.
+-- The reference model reads the same chains with what it holds, so the table of boundaries checks them by themselves.
+-- Assumes nothing.
+use mathlib.Core.Bool.{Bool, cond, not, _&&_, _||_}
+use mathlib.Core.List.{List}
+use Prim.Native.Nat.{ℕ, _+_, _-_}
+use lib.Dec.{eqb, ltb}
+use lib.ListN.{length}
+use Rattle.laws.specs.Refusals.{refuse}
+use Rattle.generator.specs.Counter.{maxCounter}
+use Rattle.generator.specs.Steps.{blockCount}
+use Rattle.generator.specs.Refusals.{maxRequest}
+use Rattle.pools.specs.Events.{maxSource, poolCount, maxData, gain}
+use Rattle.pools.specs.Pool.{full}
+
+-- the first chain's number, or the second's where the first has none
+unfoldable pub andThen : ℕ → ℕ → ℕ
+andThen first second = cond (eqb first 0) second first
+
+-- the size of a seed
+unfoldable pub seedSize : ℕ
+seedSize = 64
+
+-- 23: C = 0 and no pool reseed due
+unfoldable pub unseeded : ℕ → Bool → Bool
+unseeded c due = eqb c 0 && not due
+
+-- 24: C + u + b above its largest value; u is 1 where a pool reseed is due
+unfoldable pub spent : ℕ → Bool → ℕ → Bool
+spent c due b = ltb maxCounter (c + cond due 1 0 + b)
+
+-- ---- an event of n bytes of data, where its pool holds `size` bytes
+
+unfoldable pub eventInput : ℕ → ℕ → ℕ → ℕ
+eventInput source pool n =
+    refuse (ltb maxSource source) 11 (refuse (ltb (poolCount - 1) pool) 12 (refuse (eqb n 0 || ltb maxData n) 13 0))
+
+unfoldable pub eventState : Bool → ℕ → ℕ → ℕ
+eventState malformed size n = refuse malformed 21 (refuse (full size (gain n)) 22 0)
+
+unfoldable pub eventNumber : Bool → ℕ → ℕ → ℕ → ℕ → ℕ
+eventNumber malformed size source pool n = andThen (eventInput source pool n) (eventState malformed size n)
+
+-- ---- a request of n bytes
+
+unfoldable pub requestInput : ℕ → ℕ
+requestInput n = refuse (ltb maxRequest n) 14 0
+
+-- b blocks, for requests and seed writes
+unfoldable pub outputState : Bool → ℕ → Bool → ℕ → ℕ
+outputState malformed c due b = refuse malformed 21 (refuse (unseeded c due) 23 (refuse (spent c due b) 24 0))
+
+unfoldable pub requestNumber : Bool → ℕ → Bool → ℕ → ℕ
+requestNumber malformed c due n = andThen (requestInput n) (outputState malformed c due (blockCount n + 2))
+
+-- ---- seed calls on the lent bytes: a write asks for 64 bytes, an update reseeds before
+
+unfoldable pub seedInput : List ℕ → ℕ
+seedInput seed = refuse (not (eqb (length seed) seedSize)) 15 0
+
+unfoldable pub writeNumber : Bool → ℕ → Bool → List ℕ → ℕ
+writeNumber malformed c due seed = andThen (seedInput seed) (outputState malformed c due (blockCount seedSize + 2))
+
+unfoldable pub updateState : Bool → ℕ → Bool → ℕ
+updateState malformed c due = refuse malformed 21 (refuse (spent c due 7) 24 0)
+
+unfoldable pub updateNumber : Bool → ℕ → Bool → List ℕ → ℕ
+updateNumber malformed c due seed = andThen (seedInput seed) (updateState malformed c due)

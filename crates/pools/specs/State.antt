@@ -1,0 +1,57 @@
+-- What is read of a state: its pools, C, whether it is malformed, and whether a pool reseed is due.
+-- Assumes nothing.
+use mathlib.Core.Bool.{Bool, false, not, _&&_, _||_}
+use mathlib.Core.List.{List, [], _∷_}
+use Prim.Native.Nat.{ℕ}
+use lib.Dec.{eqb}
+use lib.ListN.{getD, replicate}
+use Rattle.hash.specs.Double.{emptyPool}
+use Rattle.hash.specs.declared.hasher.Hasher.{Hasher}
+use Rattle.generator.specs.Steps.{decode}
+use Rattle.generator.specs.Refusals as Generator
+use Rattle.generator.specs.Operations as Operations
+use Rattle.pools.specs.Events.{poolCount}
+use Rattle.pools.specs.Schedule.{isDue}
+use Rattle.pools.specs.Pool.{malformedPool}
+use Rattle.pools.specs.declared.Fortuna.{Fortuna}
+
+-- K, C, time of the last reseed and reseed count 0, no reseed made, pools empty
+unfoldable pub fresh : Fortuna
+fresh =
+    record {
+      generator = Operations.fresh;
+      pools = replicate poolCount emptyPool;
+      «last_reseed» = 0;
+      «reseed_count» = 0;
+      reseeded = false;
+    }
+
+-- pool i
+unfoldable pub poolAt : Fortuna → ℕ → Hasher
+poolAt s i = getD (s .pools) i (record { chain = []; tail = []; length = 0 })
+
+-- C
+unfoldable pub counterOf : Fortuna → ℕ
+counterOf s = decode (s .generator) .count
+
+-- a test that holds of one of the pools
+unfoldable pub anyPool : (Hasher → Bool) → List Hasher → Bool
+anyPool t [] = false
+anyPool t (p ∷ ps) = t p || anyPool t ps
+
+-- 21: C = 0 with a reseed made
+unfoldable pub unseededReseeded : Fortuna → Bool
+unseededReseeded s = eqb (counterOf s) 0 && s .reseeded
+
+-- 21: no reseed made, and its time or its count not 0
+unfoldable pub strayTimer : Fortuna → Bool
+strayTimer s = not (s .reseeded) && not (eqb (s .«last_reseed») 0 && eqb (s .«reseed_count») 0)
+
+-- 21, all clauses: of the pools, of K and C, of C and the flag, of the flag and the timer
+unfoldable pub malformed : Fortuna → Bool
+malformed s =
+    anyPool malformedPool (s .pools) || Generator.malformed (decode (s .generator)) || unseededReseeded s || strayTimer s
+
+-- a pool reseed is due at a reading
+unfoldable pub due : Fortuna → ℕ → Bool
+due s clock = isDue (poolAt s 0 .length) (s .reseeded) (s .«last_reseed») clock

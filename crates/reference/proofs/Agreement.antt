@@ -1,0 +1,172 @@
+-- In every run the station's outcomes and states are those that the reference model says, and a run is its calls' steps.
+-- Assumes nothing.
+use mathlib.Core.Path.{_≡_, refl, sym, ap, ap₂, _∙_}
+use mathlib.Core.Bool.{Bool, true, false, cond}
+use mathlib.Core.List.{List, [], _∷_, _++_, map}
+use Prim.Native.Nat.{ℕ, suc, _+_}
+use native.Mathlib.Omega.{arith}
+use lib.Dec.{eqb}
+use lib.ListN.{length}
+use borrow.Author.Tests.{eqb-true}
+use Rattle.laws.specs.Refusals.{guarded}
+use Rattle.laws.proofs.Lists.{replicate-tabulate}
+use Rattle.hash.specs.Double.{emptyPool, poolOf}
+use Rattle.hash.proofs.Laws.{pool-empty}
+use Rattle.generator.specs.Steps.{initial, encode}
+use Rattle.generator.specs.Operations as Operations
+use Rattle.pools.specs.declared.Fortuna.{Fortuna}
+use Rattle.pools.specs.Events.{poolCount, eventBytes, gain, headerLength}
+use Rattle.pools.specs.State.{fresh, counterOf, malformed, due}
+use Rattle.pools.specs.Refusals.{seedSize, requestNumber, updateNumber, writeNumber}
+use Rattle.pools.specs.Effects.{Effect, writeSeed}
+use Rattle.pools.specs.Calls.{Call, event, request, update, write, inputBuffer, callNumber, callEffect, unchanged, Outcome, outcome, step, runFrom, stateFrom, run, stateAfter}
+use Rattle.reference.specs.Reference.{Reference, empty, poolContents, dueAt, referenceNumber, referenceEffect, referenceStep, referenceRun, referenceAfter}
+use Rattle.reference.specs.Agreement.{concrete, concreteOutcome, RunIsSteps, Agrees}
+use Rattle.reference.proofs.Invariant.{Sound, sound-empty, sound-event, empty-contents}
+use Rattle.reference.proofs.Concrete.{size-concrete, counter-concrete, due-concrete, malformed-concrete}
+use Rattle.reference.proofs.Acceptance.{event-pool, event-room, event-size, request-room, write-room, update-room}
+use Rattle.reference.proofs.Advances.{outcome-keeps}
+use Rattle.reference.proofs.Simulation.{concreteEffect, add-event-concrete}
+use Rattle.reference.proofs.Requests.{request-agrees, request-sound, update-agrees, update-sound}
+
+-- ---- each call: the number, and the effect if it is accepted
+
+event-length : (source : ℕ) (content : List ℕ) → length (eventBytes source content) ≡ gain (length content)
+unfolding eventBytes gain headerLength
+event-length source content = omega arith
+
+module _ (b : Reference) (s : Sound b) where
+  by-reading : {A : Type 0} (number : Bool → ℕ → Bool → A → ℕ) (t : ℕ) (x : A)
+      → number (malformed (concrete b)) (counterOf (concrete b)) (due (concrete b) t) x ≡ number false (b .generator .count) (dueAt b t) x
+  by-reading number t x = rw (malformed-concrete b s, counter-concrete b s, due-concrete b t)
+
+  pub number-agrees : (c : Call) → callNumber (concrete b) c ≡ referenceNumber b c
+  unfolding callNumber referenceNumber
+  number-agrees (event source pool content) = rw (malformed-concrete b s) (event-size false _ _ source pool (length content) (size-concrete b pool))
+  number-agrees (request t buffer) = by-reading requestNumber t (length buffer)
+  number-agrees (update t seed) = by-reading updateNumber t seed
+  number-agrees (write t seed) = by-reading writeNumber t seed
+
+  pub effect-agrees : (place : ℕ) (c : Call) → referenceNumber b c ≡ 0 → callEffect (concrete b) c ≡ concreteEffect (referenceEffect place b c)
+  unfolding referenceNumber callEffect referenceEffect
+  effect-agrees place (event source pool content) e =
+      unfold concreteEffect in
+      λ i. record {
+        emptied = 0;
+        buffer = [];
+        next = add-event-concrete place b pool (eventBytes source content) (event-pool _ source pool (length content) e) i;
+        trace = [];
+      }
+  effect-agrees place (request t buffer) e = request-agrees b t (length buffer) s (request-room (b .generator .count) (dueAt b t) (length buffer) e)
+  effect-agrees place (update t seed) e = update-agrees b seed t s (update-room (b .generator .count) (dueAt b t) seed e)
+  effect-agrees place (write t seed) e = unfold writeSeed in request-agrees b t seedSize s (write-room (b .generator .count) (dueAt b t) seed e)
+
+  pub effect-sound : (place : ℕ) (c : Call) → referenceNumber b c ≡ 0 → Sound (referenceEffect place b c .next)
+  unfolding referenceNumber referenceEffect
+  effect-sound place (event source pool content) e =
+      sound-event place b pool (eventBytes source content) (rw (event-length source content) (event-room _ source pool (length content) e)) s
+  effect-sound place (request t buffer) e = request-sound b t (length buffer) s (request-room (b .generator .count) (dueAt b t) (length buffer) e)
+  effect-sound place (update t seed) e = update-sound b seed t s (update-room (b .generator .count) (dueAt b t) seed e)
+  effect-sound place (write t seed) e = request-sound b t seedSize s (write-room (b .generator .count) (dueAt b t) seed e)
+
+-- ---- refused or not
+
+outcome-concrete : (b : Reference) (buffer : List ℕ) (n m : ℕ) (x : Effect Fortuna) (y : Effect Reference) → n ≡ m → (m ≡ 0 → x ≡ concreteEffect y)
+    → outcome n buffer (concrete b) x ≡ concreteOutcome (outcome m buffer b y)
+unfolding outcome concreteOutcome concreteEffect
+outcome-concrete b buffer n m x y e h = λ i. record { number = e i; effect = same i }
+  where
+    go : (t : Bool) → (t ≡ true → x ≡ concreteEffect y) → cond t x (unchanged buffer (concrete b)) ≡ concreteEffect (cond t y (unchanged buffer b))
+    go true f = f refl
+    go false f = unfold unchanged concreteEffect in refl
+
+    same : guarded n x (unchanged buffer (concrete b)) ≡ concreteEffect (guarded m y (unchanged buffer b))
+    same = ap (λ (k : ℕ). guarded k x (unchanged buffer (concrete b))) e ∙ go (eqb m 0) (λ t. h (eqb-true m 0 t))
+
+pub step-agrees : (place : ℕ) (b : Reference) → Sound b → (c : Call) → step (concrete b) c ≡ concreteOutcome (referenceStep place b c)
+unfolding step referenceStep
+step-agrees place b s c = outcome-concrete b (inputBuffer c) _ _ _ _ (number-agrees b s c) (effect-agrees b s place c)
+
+pub step-sound : (place : ℕ) (b : Reference) → Sound b → (c : Call) → Sound (referenceStep place b c .effect .next)
+unfolding referenceStep
+step-sound place b s c = outcome-keeps Sound _ (inputBuffer c) b _ s (effect-sound b s place c)
+
+pub next-agrees : (place : ℕ) (b : Reference) → Sound b → (c : Call) → step (concrete b) c .effect .next ≡ concrete (referenceStep place b c .effect .next)
+unfolding concreteOutcome
+next-agrees place b s c = ap (λ (o : Outcome Fortuna). o .effect .next) (step-agrees place b s c)
+
+-- ---- every run
+
+pub run-agrees : (calls : List Call) (place : ℕ) (b : Reference) → Sound b → runFrom (λ place. step) place (concrete b) calls ≡ map concreteOutcome (runFrom referenceStep place b calls)
+unfolding runFrom
+run-agrees [] place b s = refl
+run-agrees (c ∷ calls) place b s =
+    ap₂ {B = List (Outcome Fortuna)} (λ (o : Outcome Fortuna) l. o ∷ l)
+    (step-agrees place b s c)
+    (ap (λ (x : Fortuna). runFrom (λ place. step) (suc place) x calls) (next-agrees place b s c)
+    ∙ run-agrees calls (suc place) (referenceStep place b c .effect .next) (step-sound place b s c))
+
+pub state-agrees : (calls : List Call) (place : ℕ) (b : Reference) → Sound b → stateFrom (λ place. step) place (concrete b) calls ≡ concrete (stateFrom referenceStep place b calls)
+unfolding stateFrom
+state-agrees [] place b s = refl
+state-agrees (c ∷ calls) place b s =
+    ap (λ (x : Fortuna). stateFrom (λ place. step) (suc place) x calls) (next-agrees place b s c)
+    ∙ state-agrees calls (suc place) (referenceStep place b c .effect .next) (step-sound place b s c)
+
+-- the model is sound after every list of calls
+pub sound-from : (calls : List Call) (place : ℕ) (b : Reference) → Sound b → Sound (stateFrom referenceStep place b calls)
+unfolding stateFrom
+sound-from [] place b s = s
+sound-from (c ∷ calls) place b s = sound-from calls (suc place) (referenceStep place b c .effect .next) (step-sound place b s c)
+
+pub sound-after : (calls : List Call) → Sound (referenceAfter calls)
+unfolding referenceAfter
+sound-after calls = sound-from calls 0 empty sound-empty
+
+-- ---- the fresh state
+
+pub fresh-concrete : fresh ≡ concrete empty
+unfolding fresh concrete empty Operations.fresh
+fresh-concrete =
+    λ i. record {
+      generator = encode initial;
+      pools = replicate-tabulate (λ i. poolOf (poolContents empty i)) emptyPool poolCount (λ i. ap poolOf (empty-contents i) ∙ sym pool-empty) i;
+      «last_reseed» = 0;
+      «reseed_count» = 0;
+      reseeded = false;
+    }
+
+pub agrees : (calls : List Call) → Agrees calls
+agrees calls =
+    record {
+      fresh-state = fresh-concrete;
+      outcomes =
+          unfold run referenceRun in
+          ap (λ (s : Fortuna). runFrom (λ place. step) 0 s calls) fresh-concrete ∙ run-agrees calls 0 empty sound-empty;
+      state =
+          unfold stateAfter referenceAfter in
+          ap (λ (s : Fortuna). stateFrom (λ place. step) 0 s calls) fresh-concrete ∙ state-agrees calls 0 empty sound-empty;
+    }
+
+-- ---- a run is its calls' steps
+
+run-more : (calls : List Call) (place : ℕ) (s : Fortuna) (c : Call)
+    → runFrom (λ place. step) place s (calls ++ (c ∷ [])) ≡ runFrom (λ place. step) place s calls ++ (step (stateFrom (λ place. step) place s calls) c ∷ [])
+unfolding runFrom stateFrom
+run-more [] place s c = refl
+run-more (x ∷ calls) place s c = ap {B = List (Outcome Fortuna)} (λ l. step s x ∷ l) (run-more calls (suc place) (step s x .effect .next) c)
+
+state-more : (calls : List Call) (place : ℕ) (s : Fortuna) (c : Call)
+    → stateFrom (λ place. step) place s (calls ++ (c ∷ [])) ≡ step (stateFrom (λ place. step) place s calls) c .effect .next
+unfolding stateFrom
+state-more [] place s c = refl
+state-more (x ∷ calls) place s c = state-more calls (suc place) (step s x .effect .next) c
+
+pub run-is-steps : RunIsSteps
+run-is-steps =
+    record {
+      none = unfold run runFrom in refl;
+      more = λ calls c. unfold run stateAfter in run-more calls 0 fresh c;
+      start = unfold stateAfter stateFrom in refl;
+      left = λ calls c. unfold stateAfter in state-more calls 0 fresh c;
+    }

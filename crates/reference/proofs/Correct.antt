@@ -1,0 +1,20 @@
+-- Demand 3, whole: the one claim about every list of calls.
+-- Assumes nothing.
+use mathlib.Core.List.{List}
+use Rattle.pools.specs.Calls.{Call}
+use Rattle.reference.specs.Correct.{RunCorrect}
+use Rattle.reference.proofs.Agreement.{run-is-steps, agrees}
+use Rattle.reference.proofs.Provenance as Events
+use Rattle.reference.proofs.Timer.{elapsed-law, timer-step}
+use Rattle.reference.proofs.Counters.{no-repeat}
+
+pub run-correct : (calls : List Call) → RunCorrect calls
+run-correct calls =
+    record {
+      steps = run-is-steps;
+      agreement = agrees calls;
+      provenance = Events.provenance calls;
+      clock = elapsed-law;
+      timer = timer-step calls;
+      counters = no-repeat calls;
+    }

@@ -1,0 +1,134 @@
+-- What holds of the reference model throughout a run.
+-- Assumes nothing.
+use mathlib.Core.Path.{_≡_, refl, ap, subst, _∙_}
+use mathlib.Core.Bool.{Bool, true, false, cond}
+use mathlib.Core.List.{List, [], _∷_, _++_}
+use Prim.Native.Nat.{ℕ, _+_, _≤_, _<_, zero-le}
+use native.Mathlib.Omega.{arith}
+use lib.Dec.{eqb}
+use lib.ListN.{length, length-append}
+use borrow.Author.Tests.{eqb-true}
+use Rattle.laws.specs.Lists.{joined, allZero}
+use Rattle.laws.proofs.Cases.{by-test}
+use Rattle.laws.proofs.Lists.{joined-append, joined-one, allZero-replicate}
+use Rattle.hash.specs.Double.{maxPoolLength}
+use Rattle.generator.specs.Counter.{maxCounter}
+use Rattle.generator.specs.Steps.{GeneratorState, initial, reseed}
+use Rattle.pools.specs.Schedule.{used}
+use Rattle.reference.specs.Reference.{Accepted, Reference, empty, select, pending, consumedAt, contents, poolContents, dueAt, appendEvent, withState, referenceReseed, referenceReseedIfDue}
+use Rattle.reference.proofs.Bookings.{Past, past-later, past-append, select-append, new-pending, pending-consumed, pending-gone, pending-stays}
+
+pub record Sound (b : Reference) : Type 0 where
+  pub past : Past (b .reseeds) (b .events)
+  pub fits : (i : ℕ) → length (poolContents b i) ≤ maxPoolLength
+  pub counts : b .generator .count ≤ maxCounter
+  pub keyed : b .generator .count ≡ 0 → allZero (b .generator .key) ≡ true
+  pub seeds : b .generator .count ≡ 0 → b .reseeds ≡ 0
+  pub marked : b .reseeds ≡ 0 → b .lastReseed ≡ 0
+
+-- nothing is in a pool yet
+pub empty-contents : (i : ℕ) → poolContents empty i ≡ []
+unfolding empty poolContents select contents joined
+empty-contents i = refl
+
+pub sound-empty : Sound empty
+sound-empty =
+    record {
+      past = unfold empty in tt;
+      fits = λ i. rw (empty-contents i) zero-le;
+      counts = unfold empty initial in zero-le;
+      keyed = λ h. unfold empty initial in allZero-replicate 32;
+      seeds = λ h. unfold empty in refl;
+      marked = λ h. unfold empty in refl;
+    }
+
+-- ---- what a pool holds
+
+pub contents-event : (place : ℕ) (b : Reference) (pool : ℕ) (bytes : List ℕ) (i : ℕ) → poolContents (appendEvent place b pool bytes) i ≡ poolContents b i ++ cond (eqb pool i) bytes []
+unfolding poolContents appendEvent contents
+contents-event place b pool bytes i =
+    ap contents (select-append (pending (b .reseeds) i) (b .events) e)
+    ∙ joined-append (λ (x : Accepted). x .bytes) (select (pending (b .reseeds) i) (b .events)) (cond (pending (b .reseeds) i e) (e ∷ []) [])
+    ∙ ap (λ (l : List ℕ). poolContents b i ++ l) (ap (λ (t : Bool). contents (cond t (e ∷ []) [])) (new-pending i e) ∙ one (eqb pool i))
+  where
+    e : Accepted
+    e = record { place = place; pool = pool; bytes = bytes; reseedsBefore = b .reseeds }
+
+    one : (t : Bool) → contents (cond t (e ∷ []) []) ≡ cond t bytes []
+    one true = joined-one (λ (x : Accepted). x .bytes) e
+    one false = unfold joined in refl
+
+module _ (b : Reference) (t : ℕ) (p : Past (b .reseeds) (b .events)) where
+  pub contents-used : (i : ℕ) → used (b .reseeds + 1) i ≡ true → poolContents (referenceReseed b t) i ≡ []
+  unfolding poolContents referenceReseed contents joined
+  contents-used i u = ap contents (pending-gone (b .reseeds) i (b .events) p u)
+
+  pub contents-unused : (i : ℕ) → used (b .reseeds + 1) i ≡ false → poolContents (referenceReseed b t) i ≡ poolContents b i
+  unfolding poolContents referenceReseed
+  contents-unused i u = ap contents (pending-stays (b .reseeds) i (b .events) p u)
+
+  -- a used pool holds the bytes of the events booked for the next reseed
+  pub contents-consumed : (i : ℕ) → used (b .reseeds + 1) i ≡ true → poolContents b i ≡ contents (select (consumedAt (b .reseeds + 1) i) (b .events))
+  unfolding poolContents
+  contents-consumed i u = ap contents (pending-consumed (b .reseeds) i (b .events) p u)
+
+-- ---- each step keeps it
+
+pub sound-event : (place : ℕ) (b : Reference) (pool : ℕ) (bytes : List ℕ) → length (poolContents b pool) + length bytes ≤ maxPoolLength → Sound b → Sound (appendEvent place b pool bytes)
+sound-event place b pool bytes h s =
+    record {
+      past = unfold appendEvent in past-append (b .reseeds) (b .events) _ (s .past) (omega arith);
+      fits = λ i. rw (contents-event place b pool bytes i, length-append) (grown i (eqb pool i) (eqb-true pool i));
+      counts = unfold appendEvent in s .counts;
+      keyed = unfold appendEvent in s .keyed;
+      seeds = unfold appendEvent in s .seeds;
+      marked = unfold appendEvent in s .marked;
+    }
+  where
+    grown : (i : ℕ) (t : Bool) → (t ≡ true → pool ≡ i) → length (poolContents b i) + length (cond t bytes []) ≤ maxPoolLength
+    grown i true q = subst (λ k. length (poolContents b k) + length bytes ≤ maxPoolLength) (q refl) h
+    grown i false q = omega (arith, s .fits i)
+
+pub sound-state : (b : Reference) (w : GeneratorState) → w .count ≤ maxCounter → 0 < w .count → Sound b → Sound (withState b w)
+unfolding withState poolContents
+sound-state b w h pos s =
+    record {
+      past = s .past;
+      fits = s .fits;
+      counts = h;
+      keyed = λ z. absurd (omega arith);
+      seeds = λ z. absurd (omega arith);
+      marked = s .marked;
+    }
+
+pub sound-reseed : (b : Reference) (t : ℕ) → b .generator .count + 1 ≤ maxCounter → Sound b → Sound (referenceReseed b t)
+unfolding referenceReseed reseed
+sound-reseed b t h s =
+    record {
+      past = past-later (b .reseeds) (b .events) (s .past);
+      fits = λ i. by-test (used (b .reseeds + 1) i) (length (poolContents (referenceReseed b t) i) ≤ maxPoolLength)
+          (λ u. rw (contents-used b t (s .past) i u) zero-le)
+          (λ u. rw (contents-unused b t (s .past) i u) (s .fits i));
+      counts = h;
+      keyed = λ z. absurd (omega arith);
+      seeds = λ z. absurd (omega arith);
+      marked = λ z. absurd (omega arith);
+    }
+
+-- ---- a pool reseed if due
+
+pub count-reseed-if-due : (b : Reference) (t : ℕ) → referenceReseedIfDue b t .generator .count ≡ b .generator .count + cond (dueAt b t) 1 0
+unfolding referenceReseedIfDue referenceReseed reseed
+count-reseed-if-due b t = go (dueAt b t)
+  where
+    go : (d : Bool) → (cond d (referenceReseed b t) b) .generator .count ≡ b .generator .count + cond d 1 0
+    go true = refl
+    go false = omega arith
+
+pub sound-reseed-if-due : (b : Reference) (t : ℕ) → b .generator .count + cond (dueAt b t) 1 0 ≤ maxCounter → Sound b → Sound (referenceReseedIfDue b t)
+unfolding referenceReseedIfDue
+sound-reseed-if-due b t h s = go (dueAt b t) h
+  where
+    go : (d : Bool) → b .generator .count + cond d 1 0 ≤ maxCounter → Sound (cond d (referenceReseed b t) b)
+    go true k = sound-reseed b t k s
+    go false k = s

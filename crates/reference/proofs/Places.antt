@@ -1,0 +1,146 @@
+-- The accepted events of the reference model by the place of their call: an accepted event stands in the list once, at its place, and no
+-- other call puts one there.
+-- Assumes nothing.
+use mathlib.Core.Path.{_≡_, refl, sym, ap, subst, _∙_}
+use mathlib.Core.Logic.{⊎-elim}
+use mathlib.Core.List.{List, [], _∷_, _++_, List·Memᴰ, List·Memᴰ·head, List·Memᴰ·not-nil, Memᴰ·append-left, Memᴰ·append-right, List·Memᴰ·append-cases, List·Memᴰ·eq-of-singleton}
+use Prim.Native.Nat.{ℕ, suc, _+_, _≤_, _<_}
+use native.Mathlib.Omega.{arith}
+use lib.ListN.{length}
+use Rattle.pools.specs.Events.{eventBytes}
+use Rattle.pools.specs.Effects.{Effect}
+use Rattle.pools.specs.Calls.{Call, event, inputBuffer, stateFrom}
+use Rattle.reference.specs.Reference.{Accepted, Reference, empty, appendEvent, referenceNumber, referenceEffect, referenceStep, referenceAfter}
+use Rattle.reference.specs.Provenance.{NoEvent}
+use Rattle.reference.proofs.Advances.{Shape, appended, advanced, effect-shape, outcome-done, outcome-keeps}
+
+-- ---- one event more, or none
+
+-- the event that a call at a place adds
+abbrev pub newEvent : ℕ → Reference → ℕ → ℕ → List ℕ → Accepted
+newEvent place b source pool content =
+    record { place = place; pool = pool; bytes = eventBytes source content; reseedsBefore = b .reseeds }
+
+module _ (P : List Accepted → Type 0) (place : ℕ) (b : Reference) (h : P (b .events)) where
+  -- P holds where the call adds its event
+  abbrev Adding : Call → Type 0
+  Adding c =
+      (source pool : ℕ) (content : List ℕ) → c ≡ event source pool content → P (b .events ++ (newEvent place b source pool content ∷ []))
+
+  shape-keeps : (c : Call) (x : Reference) → Adding c → Shape place b c x → P (x .events)
+  shape-keeps c x k (appended source pool content q e) = rw e (unfold appendEvent in k source pool content q)
+  shape-keeps c x k (advanced _ _ a) = rw (a .events) h
+
+  step-keeps : (c : Call) → (referenceNumber b c ≡ 0 → Adding c) → P (referenceStep place b c .effect .next .events)
+  unfolding referenceStep
+  step-keeps c k =
+      outcome-keeps (λ (x : Reference). P (x .events)) (referenceNumber b c) (inputBuffer c) b (referenceEffect place b c) h
+      (λ e. shape-keeps c _ (k e) (effect-shape place b c))
+
+-- ---- what holds of every event
+
+abbrev pub Every : (Accepted → Type 0) → List Accepted → Type 0
+Every P es = (e : Accepted) → List·Memᴰ e es → P e
+
+every-append : (P : Accepted → Type 0) (es : List Accepted) (e : Accepted) → Every P es → P e → Every P (es ++ (e ∷ []))
+every-append P es e h k x m =
+    ⊎-elim (λ n. h x n) (λ n. subst P (sym (List·Memᴰ·eq-of-singleton n)) k) (List·Memᴰ·append-cases es m)
+
+-- what holds of the events at later places goes on
+run-every :
+    (P : Accepted → Type 0) (calls : List Call) (place : ℕ) (b : Reference) → Every P (b .events) →
+    ((e : Accepted) → place ≤ e .place → P e) → Every P (stateFrom referenceStep place b calls .events)
+unfolding stateFrom
+run-every P [] place b h k = h
+run-every P (c ∷ calls) place b h k =
+    run-every P calls (suc place) (referenceStep place b c .effect .next)
+    (step-keeps (Every P) place b h c (λ _ source pool content _. every-append P (b .events) _ h (k _ (omega arith))))
+    (λ e l. k e (omega arith))
+
+-- an event stays
+run-member :
+    (e : Accepted) (calls : List Call) (place : ℕ) (b : Reference) → List·Memᴰ e (b .events) →
+    List·Memᴰ e (stateFrom referenceStep place b calls .events)
+unfolding stateFrom
+run-member e [] place b m = m
+run-member e (c ∷ calls) place b m =
+    run-member e calls (suc place) (referenceStep place b c .effect .next)
+    (step-keeps (List·Memᴰ e) place b m c (λ _ source pool content _. Memᴰ·append-left _ m))
+
+-- the places are those of the calls so far
+run-below :
+    (calls : List Call) (place : ℕ) (b : Reference) → Every (λ e. e .place < place) (b .events) →
+    Every (λ e. e .place < place + length calls) (stateFrom referenceStep place b calls .events)
+unfolding stateFrom
+run-below [] place b h e m = omega (arith, h e m)
+run-below (c ∷ calls) place b h e m =
+    omega (
+      arith,
+      run-below calls (suc place) (referenceStep place b c .effect .next)
+          (step-keeps (Every (λ e. e .place < suc place)) place b (λ f n. omega (arith, h f n)) c
+          (λ _ source pool content _. every-append (λ e. e .place < suc place) (b .events) _ (λ f n. omega (arith, h f n)) (omega arith))) e m,
+    )
+
+pub after-below : (calls : List Call) → Every (λ e. e .place < length calls) (referenceAfter calls .events)
+unfolding referenceAfter empty
+after-below calls e m = omega (arith, run-below calls 0 empty (unfold empty in λ f n. absurd (List·Memᴰ·not-nil n)) e m)
+
+-- ---- a list of calls, cut at one of them
+
+from-append :
+    (xs ys : List Call) (place : ℕ) (b : Reference) →
+    stateFrom referenceStep place b (xs ++ ys) ≡ stateFrom referenceStep (place + length xs) (stateFrom referenceStep place b xs) ys
+unfolding stateFrom
+from-append [] ys place b = ap (λ (p : ℕ). stateFrom referenceStep p b ys) (omega arith)
+from-append (c ∷ xs) ys place b =
+    from-append xs ys (suc place) (referenceStep place b c .effect .next)
+    ∙ ap (λ (p : ℕ). stateFrom referenceStep p (stateFrom referenceStep (suc place) (referenceStep place b c .effect .next) xs) ys) (omega arith)
+
+module _ (before : List Call) (c : Call) (later : List Call) where
+  -- the state that the call leaves
+  left : Reference
+  left = referenceStep (length before) (referenceAfter before) c .effect .next
+
+  after-cut : referenceAfter (before ++ (c ∷ later)) ≡ stateFrom referenceStep (suc (length before)) left later
+  unfolding referenceAfter left stateFrom
+  after-cut =
+      from-append before (c ∷ later) 0 empty
+      ∙ ap (λ (p : ℕ). stateFrom referenceStep p (stateFrom referenceStep 0 empty before) (c ∷ later)) (omega arith)
+
+  -- no event stands at the place of a call that is refused or is no event
+  pub none-at :
+      (referenceNumber (referenceAfter before) c ≡ 0 → NoEvent c) →
+      Every (λ e. e .place ≡ length before → ⊥) (referenceAfter (before ++ (c ∷ later)) .events)
+  none-at h =
+      rw after-cut
+      (run-every (λ e. e .place ≡ length before → ⊥) later (suc (length before)) left
+      (unfold left in step-keeps (Every (λ e. e .place ≡ length before → ⊥)) (length before) (referenceAfter before)
+      (λ e m q. omega (arith, after-below before e m)) c (λ k source pool content q. absurd (h k source pool content q)))
+      (λ e l q. omega arith))
+
+-- ---- an accepted event
+
+module _ (before : List Call) (source pool : ℕ) (content : List ℕ) (later : List Call)
+    (accepted : referenceNumber (referenceAfter before) (event source pool content) ≡ 0) where
+  -- it is noted, with the R before it
+  abbrev noted : Accepted
+  noted = newEvent (length before) (referenceAfter before) source pool content
+
+  left-events : left before (event source pool content) later .events ≡ referenceAfter before .events ++ (noted ∷ [])
+  unfolding left referenceStep referenceEffect appendEvent
+  left-events = ap (λ (o : Effect Reference). o .next .events) (outcome-done _ _ _ _ accepted)
+
+  -- it is listed
+  pub event-listed : List·Memᴰ noted (referenceAfter (before ++ (event source pool content ∷ later)) .events)
+  event-listed =
+      rw (after-cut before (event source pool content) later)
+      (run-member noted later (suc (length before)) _ (rw left-events (Memᴰ·append-right (referenceAfter before .events) (List·Memᴰ·head refl))))
+
+  -- and alone at its place
+  pub event-alone : Every (λ e. e .place ≡ length before → e ≡ noted) (referenceAfter (before ++ (event source pool content ∷ later)) .events)
+  event-alone =
+      rw (after-cut before (event source pool content) later)
+      (run-every (λ e. e .place ≡ length before → e ≡ noted) later (suc (length before)) _
+      (rw left-events (every-append (λ e. e .place ≡ length before → e ≡ noted) (referenceAfter before .events) noted
+      (λ e m q. absurd (omega (arith, after-below before e m))) (λ q. refl)))
+      (λ e l q. absurd (omega arith)))

@@ -1,0 +1,164 @@
+-- At which pool reseed the bytes of each event enter the key.
+-- Assumes nothing.
+use mathlib.Core.Path.{_≡_, refl, sym, ap, subst, subst₂, _∙_}
+use mathlib.Core.Logic.{_↔_}
+use mathlib.Core.Bool.{true, true≢false}
+use mathlib.Core.List.{List, _∷_, _++_}
+use Prim.Native.Nat.{ℕ, _+_, _*_, _/_, _^_, _≤_, _<_}
+use lib.ListN.{length}
+use Rattle.generator.specs.Steps.{decode, encode, reseed, pseudoRandomData}
+use Rattle.generator.specs.declared.Generator.{Generator}
+use Rattle.pools.specs.declared.Fortuna.{Fortuna}
+use Rattle.pools.specs.Events.{poolCount}
+use Rattle.pools.specs.State.{poolAt, due}
+use Rattle.pools.specs.Refusals.{seedSize}
+use Rattle.pools.specs.Effects.{Effect, nextReseed, digests, withGenerator, poolReseed, reseedIfDue, randomData, reseedWithSeed, updateSeed, writeSeed}
+use Rattle.pools.specs.Calls.{Call, event, request, update, write, callNumber, callEffect, step, stateAfter}
+use Rattle.reference.specs.Reference.{Accepted, scheduledReseed, scheduled, referenceNumber, referenceAfter}
+use Rattle.reference.specs.Timer.{readingOf, reseedsAfter}
+use Rattle.reference.specs.Provenance.{dueFor, traced, Faithful, atReseed, asked, reseededBy, EntersKey, EntersAt, EventEnters, NoEvent, OthersNever, Provenance}
+use Rattle.reference.proofs.Acceptance.{event-pool}
+use Rattle.reference.proofs.Agreement.{number-agrees, sound-after, agrees}
+use Rattle.reference.proofs.Advances.{outcome-done, reseeds-after}
+use Rattle.reference.proofs.Places.{none-at, event-listed, event-alone}
+use Rattle.reference.proofs.Uses.{entering-booked, booked-enters}
+use Rattle.reference.proofs.Tracing.{Tied, tied-string, tied-digests, run-tied, run-state}
+
+-- the pool reseeds of a run are the model's R
+same-reseeds : (calls : List Call) → reseedsAfter calls ≡ referenceAfter calls .reseeds
+same-reseeds calls = reseeds-after calls (agrees calls .outcomes)
+
+-- ---- erasing the tags gives the station's own
+
+pub faithful : (calls : List Call) → Faithful calls
+faithful calls =
+    record {
+      state = run-state calls;
+      reseeds = t .tags .reseeds ∙ sym (same-reseeds calls);
+      strings = λ i h. ap (λ (s : Fortuna). poolAt s i) (sym (run-state calls)) ∙ tied-string (traced calls) (referenceAfter calls) t i h;
+      hashes = ap (λ (s : Fortuna). digests s (nextReseed s)) (sym (run-state calls)) ∙ tied-digests (traced calls) (referenceAfter calls) t;
+    }
+  where
+    t : Tied (traced calls) (referenceAfter calls)
+    t = run-tied calls
+
+-- ---- what is used enters the key
+
+-- a seed update's reseed leaves the pools and the next reseed's number
+same-digests : (s : Fortuna) (c : Call) → digests (atReseed s c) (nextReseed (atReseed s c)) ≡ digests s (nextReseed s)
+unfolding atReseed reseedWithSeed withGenerator digests nextReseed poolAt
+same-digests s (event source pool content) = refl
+same-digests s (request clock buffer) = refl
+same-digests s (update clock seed) = refl
+same-digests s (write clock seed) = refl
+
+reseed-key : (calls : List Call) (c : Call) → poolReseed (atReseed (stateAfter calls) c) (readingOf c) .generator ≡ reseededBy calls c
+unfolding poolReseed reseededBy
+reseed-key calls c =
+    ap
+    (λ (d : List ℕ). encode (reseed (decode (atReseed (stateAfter calls) c .generator)) d))
+    (same-digests (stateAfter calls) c ∙ faithful calls .hashes)
+
+-- a request of n bytes from a generator, as a call leaves it
+record TakenFrom (g : Generator) (n : ℕ) (o : Effect Fortuna) : Type 0 where
+  bytes : o .buffer ≡ pseudoRandomData (decode g) n .bytes
+  next : o .next .generator ≡ encode (pseudoRandomData (decode g) n .next)
+
+random-due : (s : Fortuna) (clock n : ℕ) → due s clock ≡ true → TakenFrom (poolReseed s clock .generator) n (randomData s clock n)
+unfolding randomData reseedIfDue withGenerator
+random-due s clock n d = record { bytes = rw d; next = rw d }
+
+effect-due : (s : Fortuna) (c : Call) → dueFor s c ≡ true → TakenFrom (poolReseed (atReseed s c) (readingOf c) .generator) (asked c) (callEffect s c)
+unfolding dueFor atReseed readingOf asked callEffect updateSeed writeSeed
+effect-due s (event source pool content) d = absurd (true≢false (sym d))
+effect-due s (request clock buffer) d = random-due s clock (length buffer) d
+effect-due s (update clock seed) d = random-due (reseedWithSeed s seed) clock seedSize (unfold reseedWithSeed withGenerator due poolAt in d)
+effect-due s (write clock seed) d = random-due s clock seedSize d
+
+step-due : (calls : List Call) (c : Call) → callNumber (stateAfter calls) c ≡ 0 → dueFor (stateAfter calls) c ≡ true →
+    TakenFrom (reseededBy calls c) (asked c) (step (stateAfter calls) c .effect)
+step-due calls c e d =
+    let done : step (stateAfter calls) c .effect ≡ callEffect (stateAfter calls) c = unfold step in outcome-done _ _ _ _ e in
+    subst₂ (λ (g : Generator) (o : Effect Fortuna). TakenFrom g (asked c) o) (reseed-key calls c) (sym done)
+    (effect-due (stateAfter calls) c d)
+
+pub enters-key : (calls : List Call) (c : Call) → EntersKey calls c
+enters-key calls c =
+    record {
+      key = reseed-key calls c;
+      bytes = λ e d. step-due calls c e d .bytes;
+      next = λ e d. step-due calls c e d .next;
+    }
+
+-- ---- each call of a list
+
+same-number : (before : List Call) (c : Call) → callNumber (stateAfter before) c ≡ referenceNumber (referenceAfter before) c
+same-number before c =
+    ap (λ (s : Fortuna). callNumber s c) (agrees before .state) ∙ number-agrees (referenceAfter before) (sound-after before) c
+
+-- no bytes enter at the place of a call that is refused or is no event
+never-enters :
+    (before : List Call) (c : Call) (later : List Call) → (callNumber (stateAfter before) c ≡ 0 → NoEvent c) → (n i : ℕ) →
+    EntersAt (before ++ (c ∷ later)) (length before) n i → ⊥
+never-enters before c later h n i a =
+    let calls = before ++ (c ∷ later) in
+    let y = entering-booked calls (referenceAfter calls .events) (referenceAfter calls .reseeds) (run-tied calls .tags .uses) (length before) n i a in
+    none-at before c later (λ e. h (same-number before c ∙ e)) (y .event) (y .listed) (y .own)
+
+module _ (before : List Call) (source pool : ℕ) (content : List ℕ) (later : List Call)
+    (accepted : callNumber (stateAfter before) (event source pool content) ≡ 0) where
+  abbrev whole : List Call
+  whole = before ++ (event source pool content ∷ later)
+
+  model-accepts : referenceNumber (referenceAfter before) (event source pool content) ≡ 0
+  model-accepts = sym (same-number before (event source pool content)) ∙ accepted
+
+  one-of-the-pools : pool < poolCount
+  one-of-the-pools = unfold referenceNumber in event-pool _ source pool (length content) model-accepts
+
+  -- in the model's words
+  enters-booked :
+      (n i : ℕ) →
+      EntersAt whole (length before) n i
+      ↔ ((i ≡ pool) × (n ≡ scheduledReseed pool (referenceAfter before .reseeds)) × (n ≤ referenceAfter whole .reseeds))
+  unfolding scheduled
+  enters-booked n i = (
+    λ a.
+        let y = entering-booked whole (referenceAfter whole .events) (referenceAfter whole .reseeds) (run-tied whole .tags .uses) (length before) n i a in
+        let e = event-alone before source pool content later model-accepts (y .event) (y .listed) (y .own) in
+        (y .pool ∙ ap (λ (x : Accepted). x .pool) e, y .reseedNumber ∙ ap scheduled e, y .reached),
+    λ h.
+        subst₂ (EntersAt whole (length before)) (sym (h .1)) (sym (h .0))
+        (booked-enters whole (referenceAfter whole .events) (referenceAfter whole .reseeds) (run-tied whole .tags .uses) _
+        (event-listed before source pool content later model-accepts) one-of-the-pools
+        (subst (λ k. k ≤ referenceAfter whole .reseeds) (h .1) (h .2))),
+  )
+
+  enters-once :
+      (n i : ℕ) →
+      EntersAt whole (length before) n i
+      ↔ ((i ≡ pool) × (n ≡ 2 ^ pool * (reseedsAfter before / 2 ^ pool + 1)) × (n ≤ reseedsAfter whole))
+  enters-once n i = rw (same-reseeds before, same-reseeds whole) (unfold scheduledReseed in enters-booked n i)
+
+event-enters :
+    (before : List Call) (source pool : ℕ) (content : List ℕ) (later : List Call) → EventEnters before source pool content later
+event-enters before source pool content later =
+    record {
+      once = enters-once before source pool content later;
+      never = λ refused. never-enters before (event source pool content) later (λ e. absurd (refused e));
+    }
+
+others-never : (before : List Call) (c : Call) (later : List Call) → OthersNever before c later
+others-never before c later none = never-enters before c later (λ _. none)
+
+-- ---- the claim
+
+pub provenance : (calls : List Call) → Provenance calls
+provenance calls =
+    record {
+      uses = run-tied calls .tags .uses;
+      faithful = faithful calls;
+      key = enters-key calls;
+      events = λ before source pool content later _. event-enters before source pool content later;
+      others = λ before c later _. others-never before c later;
+    }

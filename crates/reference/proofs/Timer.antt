@@ -1,0 +1,190 @@
+-- Whatever call comes next makes a pool reseed exactly when due, and only that moves the mark.
+-- Assumes nothing.
+use mathlib.Core.Path.{_≡_, refl, sym, ap, _∙_}
+use mathlib.Core.Bool.{Bool, true, false, cond, not, _&&_, _||_, true≢false}
+use mathlib.Core.Logic.{_⊎_, inl, inr}
+use mathlib.Core.List.{List}
+use Prim.Native.Nat.{ℕ, zero, suc, _-_, _≤_, _<_}
+use native.Mathlib.Omega.{arith}
+use lib.Dec.{eqb, leb, ltb, eqb·suc-zero}
+use lib.ListN.{length}
+use borrow.Author.Tests.{ltb-true, lt-ltb, leb-true, le-leb, eqb-true}
+use Rattle.pools.specs.declared.Fortuna.{Fortuna}
+use Rattle.pools.specs.Schedule.{usedPools, elapsed, isDue}
+use Rattle.pools.specs.State.{poolAt, due}
+use Rattle.pools.specs.Effects.{Effect, withPool, withGenerator, addEvent, nextReseed, poolReseed, reseedIfDue, emptiedBy, randomData, reseedWithSeed, updateSeed, writeSeed}
+use Rattle.pools.specs.Calls.{Call, event, request, update, write, inputBuffer, callNumber, callEffect, unchanged, outcome, step, stateAfter}
+use Rattle.reference.specs.Agreement.{concrete}
+use Rattle.reference.specs.Timer.{reseedsAfter, Clocked, readingOf, Later, ElapsedLaw, TimerStep}
+use Rattle.reference.specs.Provenance.{dueFor}
+use Rattle.reference.proofs.Schedule.{used-some}
+use Rattle.reference.proofs.Advances.{reseeds-after}
+use Rattle.reference.proofs.Agreement.{agrees}
+
+-- ---- the clock
+
+pub elapsed-law : ElapsedLaw
+unfolding elapsed
+elapsed-law reading mark = (omega arith, omega arith)
+
+-- no other e is
+elapsed-only : (reading mark e : ℕ) → Later mark e reading → elapsed reading mark ≡ e
+unfolding elapsed
+elapsed-only reading mark e (h, k) = omega arith
+
+-- ---- due, spelled out: n pool reseeds were made
+
+Waited : ℕ → ℕ → ℕ → Type 0
+Waited n mark reading = (n ≡ 0) ⊎ ((e : ℕ) × Later mark e reading × (100 < e))
+
+both : (x y : Bool) → (x && y) ≡ true → (x ≡ true) × (y ≡ true)
+both true y h = (refl, h)
+both false y h = absurd (true≢false (sym h))
+
+waited : (n mark reading : ℕ) → (not (ltb 0 n) || ltb 100 (elapsed reading mark)) ≡ true → Waited n mark reading
+unfolding Waited
+waited zero mark reading h = inl refl
+waited (suc n) mark reading h =
+    let k : ltb 100 (elapsed reading mark) ≡ true = rw (lt-ltb 0 (suc n) (omega arith)) at h in
+    inr (elapsed reading mark, elapsed-law reading mark, ltb-true 100 (elapsed reading mark) k)
+
+or-true : (x : Bool) → (x || true) ≡ true
+or-true true = refl
+or-true false = refl
+
+waited-back : (n mark reading : ℕ) → Waited n mark reading → (not (ltb 0 n) || ltb 100 (elapsed reading mark)) ≡ true
+unfolding Waited
+waited-back n mark reading (inl e) = rw e
+waited-back n mark reading (inr (e, l, h)) = rw (elapsed-only reading mark e l, lt-ltb 100 e h) (or-true (not (ltb 0 n)))
+
+due-says : (size n mark reading : ℕ) → isDue size (ltb 0 n) mark reading ≡ true → (64 ≤ size) × Waited n mark reading
+unfolding isDue
+due-says size n mark reading h =
+    let p = both (leb 64 size) (not (ltb 0 n) || ltb 100 (elapsed reading mark)) h in
+    (leb-true 64 size (p .0), waited n mark reading (p .1))
+
+due-holds : (size n mark reading : ℕ) → 64 ≤ size → Waited n mark reading → isDue size (ltb 0 n) mark reading ≡ true
+unfolding isDue
+due-holds size n mark reading h w = rw (le-leb 64 size h, waited-back n mark reading w)
+
+-- ---- one step of a state
+
+emptied-due : (s : Fortuna) (clock : ℕ) → ltb 0 (emptiedBy s clock) ≡ due s clock
+unfolding emptiedBy
+emptied-due s clock = go (due s clock)
+  where
+    go : (d : Bool) → ltb 0 (cond d (length (usedPools (nextReseed s))) 0) ≡ d
+    go true = lt-ltb 0 _ (used-some (nextReseed s))
+    go false = refl
+
+seeded-due : (s : Fortuna) (seed : List ℕ) (clock : ℕ) → due (reseedWithSeed s seed) clock ≡ due s clock
+unfolding due poolAt reseedWithSeed withGenerator
+seeded-due s seed clock = refl
+
+random-data-emptied : (s : Fortuna) (clock n : ℕ) → ltb 0 (randomData s clock n .emptied) ≡ due s clock
+unfolding randomData
+random-data-emptied s clock n = emptied-due s clock
+
+effect-emptied : (s : Fortuna) (c : Call) → ltb 0 (callEffect s c .emptied) ≡ dueFor s c
+unfolding callEffect dueFor
+effect-emptied s (event source pool content) = refl
+effect-emptied s (request clock buffer) = random-data-emptied s clock (length buffer)
+effect-emptied s (update clock seed) = unfold updateSeed in random-data-emptied (reseedWithSeed s seed) clock _ ∙ seeded-due s seed clock
+effect-emptied s (write clock seed) = unfold writeSeed in random-data-emptied s clock _
+
+random-data-mark : (s : Fortuna) (clock n : ℕ) → randomData s clock n .next .«last_reseed» ≡ cond (due s clock) clock (s .«last_reseed»)
+unfolding randomData withGenerator reseedIfDue
+random-data-mark s clock n = go (due s clock)
+  where
+    go : (d : Bool) → cond d (poolReseed s clock) s .«last_reseed» ≡ cond d clock (s .«last_reseed»)
+    go true = unfold poolReseed in refl
+    go false = refl
+
+effect-mark : (s : Fortuna) (c : Call) → callEffect s c .next .«last_reseed» ≡ cond (dueFor s c) (readingOf c) (s .«last_reseed»)
+unfolding callEffect dueFor readingOf
+effect-mark s (event source pool content) = unfold addEvent withPool in refl
+effect-mark s (request clock buffer) = random-data-mark s clock (length buffer)
+effect-mark s (update clock seed) =
+    unfold updateSeed in
+    random-data-mark (reseedWithSeed s seed) clock _
+    ∙ rw (seeded-due s seed clock) (unfold reseedWithSeed withGenerator in refl)
+effect-mark s (write clock seed) = unfold writeSeed in random-data-mark s clock _
+
+-- a refused call does nothing
+outcome-emptied : (n : ℕ) (buffer : List ℕ) (s : Fortuna) (x : Effect Fortuna) (d : Bool) → ltb 0 (x .emptied) ≡ d
+    → ltb 0 (outcome n buffer s x .effect .emptied) ≡ (eqb n 0 && d)
+unfolding outcome unchanged
+outcome-emptied zero buffer s x d h = h
+outcome-emptied (suc n) buffer s x d h = rw (eqb·suc-zero n)
+
+outcome-mark : (n : ℕ) (buffer : List ℕ) (s : Fortuna) (x : Effect Fortuna) (d : Bool) (t : ℕ) → x .next .«last_reseed» ≡ cond d t (s .«last_reseed»)
+    → outcome n buffer s x .effect .next .«last_reseed» ≡ cond (eqb n 0 && d) t (s .«last_reseed»)
+unfolding outcome unchanged
+outcome-mark zero buffer s x d t h = h
+outcome-mark (suc n) buffer s x d t h = rw (eqb·suc-zero n)
+
+step-number : (s : Fortuna) (c : Call) → step s c .number ≡ callNumber s c
+unfolding step outcome
+step-number s c = refl
+
+step-emptied : (s : Fortuna) (c : Call) → ltb 0 (step s c .effect .emptied) ≡ (eqb (callNumber s c) 0 && dueFor s c)
+unfolding step
+step-emptied s c = outcome-emptied (callNumber s c) (inputBuffer c) s (callEffect s c) (dueFor s c) (effect-emptied s c)
+
+step-mark : (s : Fortuna) (c : Call) → step s c .effect .next .«last_reseed» ≡ cond (ltb 0 (step s c .effect .emptied)) (readingOf c) (s .«last_reseed»)
+step-mark s c =
+    rw (step-emptied s c)
+    (unfold step in outcome-mark (callNumber s c) (inputBuffer c) s (callEffect s c) (dueFor s c) (readingOf c) (effect-mark s c))
+
+-- a reseed is due only for a call with a reading
+due-clocked : (s : Fortuna) (c : Call) → dueFor s c ≡ true → Clocked c × (due s (readingOf c) ≡ true)
+unfolding dueFor readingOf
+due-clocked s (event source pool content) h = absurd (true≢false (sym h))
+due-clocked s (request clock buffer) h = (tt, h)
+due-clocked s (update clock seed) h = (tt, h)
+due-clocked s (write clock seed) h = (tt, h)
+
+clocked-due : (s : Fortuna) (c : Call) → Clocked c → due s (readingOf c) ≡ true → dueFor s c ≡ true
+unfolding dueFor readingOf
+clocked-due s (event source pool content) k h = absurd k
+clocked-due s (request clock buffer) k h = h
+clocked-due s (update clock seed) k h = h
+clocked-due s (write clock seed) k h = h
+
+-- ---- after every list of calls
+
+-- the flag says whether a pool reseed was made
+pub reseeded-after : (calls : List Call) → stateAfter calls .reseeded ≡ ltb 0 (reseedsAfter calls)
+reseeded-after calls =
+    ap (λ (s : Fortuna). s .reseeded) (agrees calls .state)
+    ∙ (unfold concrete in ap (λ (n : ℕ). ltb 0 n) (sym (reseeds-after calls (agrees calls .outcomes))))
+
+due-after : (calls : List Call) (clock : ℕ) → due (stateAfter calls) clock ≡ isDue (poolAt (stateAfter calls) 0 .length) (ltb 0 (reseedsAfter calls)) (stateAfter calls .«last_reseed») clock
+unfolding due
+due-after calls clock = ap (λ (made : Bool). isDue (poolAt (stateAfter calls) 0 .length) made (stateAfter calls .«last_reseed») clock) (reseeded-after calls)
+
+pub timer-step : (calls : List Call) (c : Call) → TimerStep calls c
+timer-step calls c = record { reseeds = (says, holds); mark = step-mark s c }
+  where
+    s : Fortuna
+    s = stateAfter calls
+
+    Told : Type 0
+    Told =
+        (step (stateAfter calls) c .number ≡ 0) × Clocked c × (64 ≤ poolAt (stateAfter calls) 0 .length)
+        × ((reseedsAfter calls ≡ 0) ⊎ ((e : ℕ) × Later (stateAfter calls .«last_reseed») e (readingOf c) × (100 < e)))
+
+    says : 0 < step (stateAfter calls) c .effect .emptied → Told
+    says h =
+        unfold Waited in
+        let p = both (eqb (callNumber (stateAfter calls) c) 0) (dueFor (stateAfter calls) c) (sym (step-emptied (stateAfter calls) c) ∙ lt-ltb 0 _ h) in
+        let k = due-clocked (stateAfter calls) c (p .1) in
+        let d = due-says (poolAt (stateAfter calls) 0 .length) (reseedsAfter calls) (stateAfter calls .«last_reseed») (readingOf c) (sym (due-after calls (readingOf c)) ∙ k .1) in
+        (step-number (stateAfter calls) c ∙ eqb-true _ 0 (p .0), k .0, d .0, d .1)
+
+    holds : Told → 0 < step (stateAfter calls) c .effect .emptied
+    holds (n, k, size, w) =
+        unfold Waited in
+        let d : due (stateAfter calls) (readingOf c) ≡ true = due-after calls (readingOf c) ∙ due-holds (poolAt (stateAfter calls) 0 .length) (reseedsAfter calls) (stateAfter calls .«last_reseed») (readingOf c) size w in
+        let e : callNumber (stateAfter calls) c ≡ 0 = sym (step-number (stateAfter calls) c) ∙ n in
+        ltb-true 0 _ (step-emptied (stateAfter calls) c ∙ rw (e, clocked-due (stateAfter calls) c k d))

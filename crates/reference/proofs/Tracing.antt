@@ -1,0 +1,269 @@
+-- The traced station beside the reference model: its pieces are the events pending in each pool, and its uses of pools are the schedule's.
+-- Assumes nothing.
+use mathlib.Core.Path.{_≡_, refl, sym, ap, ap₂, subst, fun-ext, _∙_}
+use mathlib.Core.Bool.{Bool, true, false, cond}
+use mathlib.Core.List.{List, [], _∷_, _++_, map, append-nil, map-append}
+use Prim.Native.Nat.{ℕ, zero, suc, _+_, _≤_, _<_}
+use native.Mathlib.Numerals.{add-one}
+use native.Mathlib.Omega.{arith}
+use lib.Dec.{eqb, eqb·suc-zero}
+use Rattle.laws.specs.Lists.{joined}
+use Rattle.laws.proofs.Cases.{split}
+use Rattle.laws.proofs.Lists.{joined-map}
+use Rattle.hash.specs.Double.{D, poolOf, poolDigest}
+use Rattle.hash.proofs.Laws.{pool-digest-is}
+use Rattle.pools.specs.declared.Fortuna.{Fortuna}
+use Rattle.pools.specs.Events.{poolCount, eventBytes}
+use Rattle.pools.specs.Schedule.{used, usedPools}
+use Rattle.pools.specs.State.{poolAt, due}
+use Rattle.pools.specs.Effects.{Effect, nextReseed, digests}
+use Rattle.pools.specs.Calls.{Call, event, inputBuffer, unchanged, Outcome, outcome, callNumber, step, stateFrom, stateAfter}
+use Rattle.reference.specs.Reference.{Accepted, Reference, empty, select, pending, consumedAt, contents, poolContents, dueAt, appendEvent, referenceReseed, referenceReseedIfDue, referenceNumber, referenceEffect, referenceStep, referenceAfter}
+use Rattle.reference.specs.Agreement.{concrete, concreteOutcome}
+use Rattle.reference.specs.Timer.{readingOf}
+use Rattle.reference.specs.Provenance.{Piece, PoolUse, erased, Traced, tracedFresh, dueFor, putsInto, useOf, nextUses, tracedReseed, tracedAccepted, tracedStep, tracedFrom, traced, pieceOf, scheduledUse, scheduledUses}
+use Rattle.reference.proofs.Schedule.{joined-used}
+use Rattle.reference.proofs.Bookings.{select-append, new-pending, new-consumed-later, pending-consumed, pending-gone, pending-stays}
+use Rattle.reference.proofs.Invariant.{Sound, sound-empty}
+use Rattle.reference.proofs.Concrete.{pool-concrete, due-concrete}
+use Rattle.reference.proofs.Simulation.{used-concrete, used-pools-concrete}
+use Rattle.reference.proofs.Advances.{Advanced, reseed-advances, Shape, appended, advanced, effect-shape}
+use Rattle.reference.proofs.Agreement.{number-agrees, step-agrees, step-sound, fresh-concrete}
+
+-- ---- pieces
+
+erased-map : (es : List Accepted) → erased (map pieceOf es) ≡ contents es
+unfolding erased contents
+erased-map es = joined-map (λ (p : Piece). p .bytes) pieceOf es ∙ (unfold pieceOf in refl)
+
+joined-each :
+    {A B C : Type 0} (f : B → List C) (g : A → B) (l : List A) → joined f (joined (λ a. g a ∷ []) l) ≡ joined (λ a. f (g a)) l
+unfolding joined
+joined-each f g [] = refl
+joined-each {C} f g (x ∷ l) = ap (λ (m : List C). f (g x) ++ m) (joined-each f g l)
+
+-- ---- what the model says of the pieces
+
+pub record Tags (t : Traced) (b : Reference) : Type 0 where
+  pub reseeds : t .reseeds ≡ b .reseeds
+  pub pieces : (i : ℕ) → i < poolCount → t .pieces i ≡ map pieceOf (select (pending (b .reseeds) i) (b .events))
+  pub uses : t .uses ≡ scheduledUses (b .events) (b .reseeds)
+
+pub record Tied (t : Traced) (b : Reference) : Type 0 where
+  pub state : t .state ≡ concrete b
+  pub tags : Tags t b
+
+module _ (t : Traced) (b : Reference) (tied : Tied t b) where
+  -- each pool is the running hash of its pieces' bytes
+  pub tied-string : (i : ℕ) → i < poolCount → poolAt (t .state) i ≡ poolOf (erased (t .pieces i))
+  tied-string i h =
+      ap (λ (s : Fortuna). poolAt s i) (tied .state) ∙ pool-concrete b i h
+      ∙ ap poolOf (unfold poolContents in sym (ap erased (tied .tags .pieces i h) ∙ erased-map _))
+
+  -- and the next pool reseed hashes those strings
+  pub tied-digests : digests (t .state) (nextReseed (t .state)) ≡ joined (λ u. D (erased (u .pieces))) (nextUses t)
+  tied-digests =
+      unfold digests nextUses useOf in
+      (joined-used
+      _
+      (λ i. D (erased (t .pieces i)))
+      (nextReseed (t .state))
+      (λ i h u. ap poolDigest (tied-string i h) ∙ pool-digest-is (erased (t .pieces i)))
+      ∙ sym
+      (joined-each
+      (λ (u : PoolUse). D (erased (u .pieces)))
+      (λ i. record { reseedNumber = t .reseeds + 1; pool = i; pieces = t .pieces i })
+      (usedPools (nextReseed (t .state)))))
+
+-- ---- a pool reseed
+
+module _ (t : Traced) (b : Reference) (clock : ℕ) (s : Sound b) (tied : Tied t b) where
+  same-pools : usedPools (nextReseed (t .state)) ≡ usedPools (b .reseeds + 1)
+  same-pools = ap (λ (x : Fortuna). usedPools (nextReseed x)) (tied .state) ∙ used-pools-concrete b
+
+  left-pieces :
+      (i : ℕ) → i < poolCount →
+      cond (used (nextReseed (t .state)) i) [] (t .pieces i) ≡ map pieceOf (select (pending (b .reseeds + 1) i) (b .events))
+  left-pieces i h =
+      ap (λ (u : Bool). cond u [] (t .pieces i)) (ap (λ (x : Fortuna). used (nextReseed x) i) (tied .state) ∙ used-concrete b i h)
+      ∙ split (λ (p : List Piece). p ≡ map pieceOf (select (pending (b .reseeds + 1) i) (b .events))) (used (b .reseeds + 1) i)
+      (λ u. sym (ap (map pieceOf) (pending-gone (b .reseeds) i (b .events) (s .past) u)))
+      (λ u. tied .tags .pieces i h ∙ ap (map pieceOf) (sym (pending-stays (b .reseeds) i (b .events) (s .past) u)))
+
+  one-use : (i : ℕ) → i < poolCount → used (b .reseeds + 1) i ≡ true → useOf t i ≡ scheduledUse (b .events) (b .reseeds + 1) i
+  unfolding useOf scheduledUse
+  one-use i h u = λ k.
+      record {
+        reseedNumber = tied .tags .reseeds k + 1;
+        pool = i;
+        pieces = (tied .tags .pieces i h ∙ ap (map pieceOf) (pending-consumed (b .reseeds) i (b .events) (s .past) u)) k;
+      } ∷ []
+
+  new-uses : nextUses t ≡ joined (scheduledUse (b .events) (b .reseeds + 1)) (usedPools (b .reseeds + 1))
+  unfolding nextUses
+  new-uses =
+      ap (joined (useOf t)) same-pools
+      ∙ joined-used (useOf t) (scheduledUse (b .events) (b .reseeds + 1)) (b .reseeds + 1) one-use
+
+  all-uses : t .uses ++ nextUses t ≡ scheduledUses (b .events) (b .reseeds + 1)
+  all-uses =
+      ap₂ (λ (x y : List PoolUse). x ++ y) (tied .tags .uses) (rw add-one at new-uses) ∙ (unfold scheduledUses in rw add-one refl)
+
+  reseed-tags : Tags (tracedReseed t) (referenceReseed b clock)
+  unfolding tracedReseed referenceReseed
+  reseed-tags = record { reseeds = ap (λ (n : ℕ). n + 1) (tied .tags .reseeds); pieces = left-pieces; uses = all-uses }
+
+-- ---- an event
+
+-- it belongs to no reseed made before
+uses-event :
+    (es : List Accepted) (e : Accepted) (n : ℕ) → n ≤ e .reseedsBefore → scheduledUses (es ++ (e ∷ [])) n ≡ scheduledUses es n
+unfolding scheduledUses scheduledUse
+uses-event es e zero h = refl
+uses-event es e (suc n) h =
+    ap₂ (λ (x y : List PoolUse). x ++ y) (uses-event es e n (omega arith))
+    (joined-used _ _ (suc n) (λ i _ _ k. record { reseedNumber = suc n; pool = i; pieces = map pieceOf (same i k) } ∷ []))
+  where
+    same : (i : ℕ) → select (consumedAt (suc n) i) (es ++ (e ∷ [])) ≡ select (consumedAt (suc n) i) es
+    same i =
+        select-append (consumedAt (suc n) i) es e
+        ∙ rw (new-consumed-later (suc n) i e h) (append-nil (select (consumedAt (suc n) i) es))
+
+event-tags :
+    (place : ℕ) (t : Traced) (b : Reference) (source pool : ℕ) (content : List ℕ) → Tags t b →
+    Tags (tracedAccepted place t (event source pool content)) (appendEvent place b pool (eventBytes source content))
+unfolding tracedAccepted dueFor putsInto appendEvent
+event-tags place t b source pool content g =
+    record {
+      reseeds = g .reseeds;
+      pieces = λ i h.
+          ap₂ (λ (x y : List Piece). x ++ y) (g .pieces i h) (sym (one i))
+          ∙ sym
+          (ap (map pieceOf) (select-append (pending (b .reseeds) i) (b .events) e)
+          ∙ map-append pieceOf (select (pending (b .reseeds) i) (b .events)) (cond (pending (b .reseeds) i e) (e ∷ []) []));
+      uses = g .uses ∙ sym (uses-event (b .events) e (b .reseeds) (omega arith));
+    }
+  where
+    e : Accepted
+    e = record { place = place; pool = pool; bytes = eventBytes source content; reseedsBefore = b .reseeds }
+
+    cases : (u : Bool) → map pieceOf (cond u (e ∷ []) []) ≡ cond u (record { place = place; bytes = eventBytes source content } ∷ []) []
+    cases true = unfold pieceOf in refl
+    cases false = refl
+
+    one :
+        (i : ℕ) →
+        map pieceOf (cond (pending (b .reseeds) i e) (e ∷ []) []) ≡ cond (eqb pool i) (record { place = place; bytes = eventBytes source content } ∷ []) []
+    one i = ap (λ (u : Bool). map pieceOf (cond u (e ∷ []) [])) (new-pending i e) ∙ cases (eqb pool i)
+
+-- ---- a request or a seed call
+
+-- the pieces after a call that puts nothing into a pool
+quiet : Traced → Traced
+quiet t = record { state = t .state; reseeds = t .reseeds; pieces = λ i. t .pieces i ++ []; uses = t .uses }
+
+-- the model's states with the same R and events have the same pieces
+quiet-tags : (t : Traced) (x y : Reference) → x .reseeds ≡ y .reseeds → x .events ≡ y .events → Tags t x → Tags (quiet t) y
+unfolding quiet
+quiet-tags t x y p q h =
+    record {
+      reseeds = h .reseeds ∙ p;
+      pieces = λ i k.
+          append-nil (t .pieces i) ∙ h .pieces i k
+          ∙ ap₂ (λ (r : ℕ) (es : List Accepted). map pieceOf (select (pending r i) es)) p q;
+      uses = h .uses ∙ ap₂ (λ (r : ℕ) (es : List Accepted). scheduledUses es r) p q;
+    }
+
+accepted-quiet :
+    (place : ℕ) (t : Traced) (c : Call) (d : Bool) → dueFor (t .state) c ≡ d → ((i : ℕ) → putsInto place c i ≡ []) →
+    tracedAccepted place t c ≡ quiet (cond d (tracedReseed t) t)
+unfolding tracedAccepted quiet
+accepted-quiet place t c d e p =
+    ap (λ (u : Bool). with-pieces (cond u (tracedReseed t) t) (putsInto place c)) e ∙ ap (with-pieces (cond d (tracedReseed t) t)) (fun-ext p)
+  where
+    with-pieces : Traced → (ℕ → List Piece) → Traced
+    with-pieces m f = record { state = m .state; reseeds = m .reseeds; pieces = λ i. m .pieces i ++ f i; uses = m .uses }
+
+module _ (t : Traced) (b : Reference) (clock : ℕ) (s : Sound b) (tied : Tied t b) where
+  due-tags : (d : Bool) → Tags (cond d (tracedReseed t) t) (cond d (referenceReseed b clock) b)
+  due-tags true = reseed-tags t b clock s tied
+  due-tags false = tied .tags
+
+  advanced-tags : (x : Reference) → Advanced b clock x → Tags (quiet (cond (due (t .state) clock) (tracedReseed t) t)) x
+  advanced-tags x a =
+      let r = reseed-advances b clock in
+      rw (ap (λ (y : Fortuna). due y clock) (tied .state) ∙ due-concrete b clock)
+      (quiet-tags _ (referenceReseedIfDue b clock) x (r .reseeds ∙ sym (a .reseeds)) (r .events ∙ sym (a .events))
+      (unfold referenceReseedIfDue in due-tags (dueAt b clock)))
+
+-- ---- a call
+
+shape-tags :
+    (place : ℕ) (t : Traced) (b : Reference) → Sound b → Tied t b → (c : Call) (x : Reference) → Shape place b c x →
+    Tags (tracedAccepted place t c) x
+shape-tags place t b s tied c x (appended source pool content q e) = rw (q, e) (event-tags place t b source pool content (tied .tags))
+shape-tags place t b s tied c x (advanced q p a) =
+    subst (λ (m : Traced). Tags m x) (sym (accepted-quiet place t c _ (q (t .state)) p)) (advanced-tags t b (readingOf c) s tied x a)
+
+outcome-tags :
+    (b : Reference) (buffer : List ℕ) (n : ℕ) (done : Effect Reference) (t m : Traced) → Tags t b → (n ≡ 0 → Tags m (done .next)) →
+    Tags (cond (eqb n 0) m t) (outcome n buffer b done .effect .next)
+unfolding outcome unchanged
+outcome-tags b buffer zero done t m h k = k refl
+outcome-tags b buffer (suc n) done t m h k = rw (eqb·suc-zero n) h
+
+step-tied :
+    (place : ℕ) (t : Traced) (b : Reference) → Sound b → Tied t b → (c : Call) →
+    Tied (tracedStep place t c) (referenceStep place b c .effect .next)
+step-tied place t b s tied c =
+    record {
+      state =
+          unfold tracedStep concreteOutcome in
+          ap (λ (o : Outcome Fortuna). o .effect .next) (ap (λ (x : Fortuna). step x c) (tied .state) ∙ step-agrees place b s c);
+      tags = unfold tracedStep in record { reseeds = after .reseeds; pieces = after .pieces; uses = after .uses };
+    }
+  where
+    same-number : callNumber (t .state) c ≡ referenceNumber b c
+    same-number = ap (λ (x : Fortuna). callNumber x c) (tied .state) ∙ number-agrees b s c
+
+    after : Tags (cond (eqb (callNumber (t .state) c) 0) (tracedAccepted place t c) t) (referenceStep place b c .effect .next)
+    after =
+        subst
+        (λ (n : ℕ). Tags (cond (eqb n 0) (tracedAccepted place t c) t) (referenceStep place b c .effect .next))
+        (sym same-number)
+        (unfold referenceStep in
+        outcome-tags b (inputBuffer c) (referenceNumber b c) (referenceEffect place b c) t _ (tied .tags)
+        (λ e. shape-tags place t b s tied c _ (effect-shape place b c)))
+
+-- ---- every run
+
+from-tied :
+    (calls : List Call) (place : ℕ) (t : Traced) (b : Reference) → Sound b → Tied t b →
+    Tied (tracedFrom place t calls) (stateFrom referenceStep place b calls)
+unfolding tracedFrom stateFrom
+from-tied [] place t b s tied = tied
+from-tied (c ∷ calls) place t b s tied =
+    from-tied calls (suc place) (tracedStep place t c) (referenceStep place b c .effect .next) (step-sound place b s c) (step-tied place t b s tied c)
+
+fresh-tied : Tied tracedFresh empty
+unfolding tracedFresh
+fresh-tied =
+    record {
+      state = fresh-concrete;
+      tags = unfold empty select scheduledUses in record { reseeds = refl; pieces = λ i h. refl; uses = refl };
+    }
+
+pub run-tied : (calls : List Call) → Tied (traced calls) (referenceAfter calls)
+unfolding traced referenceAfter
+run-tied calls = from-tied calls 0 tracedFresh empty sound-empty fresh-tied
+
+-- the traced station's state is the station's
+from-state :
+    (calls : List Call) (place : ℕ) (t : Traced) → tracedFrom place t calls .state ≡ stateFrom (λ place. step) place (t .state) calls
+unfolding tracedFrom stateFrom
+from-state [] place t = refl
+from-state (c ∷ calls) place t = from-state calls (suc place) (tracedStep place t c) ∙ (unfold tracedStep in refl)
+
+pub run-state : (calls : List Call) → traced calls .state ≡ stateAfter calls
+unfolding traced stateAfter
+run-state calls = from-state calls 0 tracedFresh ∙ (unfold tracedFresh in refl)

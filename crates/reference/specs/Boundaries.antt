@@ -1,0 +1,162 @@
+-- Boundary rows over what calls do: the text that station and model share is checked here by itself. Each number's last accepted and
+-- first refused value, the order of the numbers, what a refused call leaves, and each clause of 21 with a well-formed neighbour.
+-- Assumes nothing.
+use mathlib.Core.Path.{_≡_}
+use mathlib.Core.Bool.{Bool, true, false}
+use mathlib.Core.List.{List, [], _∷_, _++_, map}
+use Prim.Native.Nat.{ℕ, _+_, _-_, _^_}
+use lib.ListN.{length, replicate, set}
+use Rattle.hash.specs.Double.{D, emptyPool}
+use Rattle.hash.specs.declared.hasher.Hasher.{Hasher}
+use Rattle.generator.specs.Steps.{GeneratorState, encode, reseed}
+use Rattle.pools.specs.declared.Fortuna.{Fortuna}
+use Rattle.pools.specs.Schedule.{usedPools}
+use Rattle.pools.specs.State.{fresh, malformed}
+use Rattle.pools.specs.Calls.{Call, event, request, update, write, step}
+use Rattle.reference.specs.Readings.{wholeBlocks, reseededState, seededState}
+
+-- the number that a state answers a call with
+unfoldable pub answers : Fortuna → List Call → List ℕ
+answers s calls = map (λ (c : Call). step s c .number) calls
+
+-- a state with other pools, and one with another pool 0
+unfoldable pub withPools : Fortuna → List Hasher → Fortuna
+withPools s ps =
+    record {
+      generator = s .generator;
+      pools = ps;
+      «last_reseed» = s .«last_reseed»;
+      «reseed_count» = s .«reseed_count»;
+      reseeded = s .reseeded;
+    }
+
+unfoldable pub withFirstPool : Fortuna → Hasher → Fortuna
+withFirstPool s p = withPools s (set (s .pools) 0 p)
+
+-- a fresh state's neighbour with another K, C, time, count and flag
+unfoldable pub withTimer : ℕ → ℕ → ℕ → ℕ → Bool → Fortuna
+withTimer key c last count made =
+    record {
+      generator = encode (record { key = key ∷ replicate 31 0; count = c });
+      pools = replicate 32 emptyPool;
+      «last_reseed» = last;
+      «reseed_count» = count;
+      reseeded = made;
+    }
+
+-- C = 0 with K not all zero: a state that 21 refuses
+unfoldable pub keyedUnseeded : Fortuna
+keyedUnseeded = withTimer 1 0 0 0 false
+
+-- 11, 12, 13, and each before the next; 32 bytes are accepted, 33 and none are not
+abbrev pub EventRow : Type 0
+EventRow =
+    answers fresh
+    (event 255 31 (1 ∷ []) ∷ event 256 32 [] ∷ event 255 32 [] ∷ event 255 31 [] ∷ event 0 0 (replicate 32 1) ∷ event 0 0 (replicate 33 1) ∷ [])
+    ≡ 0 ∷ 11 ∷ 12 ∷ 13 ∷ 0 ∷ 13 ∷ []
+
+-- input numbers before 21
+abbrev pub EventOrderRow : Type 0
+EventOrderRow =
+    answers keyedUnseeded (event 256 0 (1 ∷ []) ∷ event 0 32 (1 ∷ []) ∷ event 0 0 [] ∷ event 0 0 (1 ∷ []) ∷ []) ≡ 11 ∷ 12 ∷ 13 ∷ 21 ∷ []
+
+-- 22: length + 2 + data length up to 2^61 - 1, in that pool alone; a length above that is 21
+abbrev pub RoomRow : Type 0
+RoomRow =
+    map (λ (n : ℕ). step (withFirstPool fresh (wholeBlocks n)) (event 0 0 (replicate 30 1)) .number)
+    ((2 ^ 61 - 64) ∷ (2 ^ 61) ∷ [])
+    ++ map (λ (n : ℕ). step (withFirstPool fresh (wholeBlocks (2 ^ 61 - 64))) (event 0 0 (replicate n 1)) .number) (31 ∷ 32 ∷ [])
+    ++ answers (withFirstPool fresh (record { chain = replicate 8 0; tail = replicate 64 0; length = 2 ^ 61 - 4 }))
+    (event 0 0 (1 ∷ []) ∷ event 0 0 (1 ∷ 2 ∷ []) ∷ event 0 1 (1 ∷ 2 ∷ []) ∷ [])
+    ≡ 0 ∷ 21 ∷ 0 ∷ 0 ∷ 0 ∷ 22 ∷ 0 ∷ []
+
+-- 21 before 23 before 24; 23 not where a reseed is due; a request of no bytes takes 2, with a due reseed 3
+abbrev pub RequestRow : Type 0
+RequestRow =
+    answers keyedUnseeded (request 0 [] ∷ []) ++ answers fresh (request 0 [] ∷ request 0 (1 ∷ []) ∷ [])
+    ++ answers (withFirstPool fresh (wholeBlocks 64)) (request 0 [] ∷ [])
+    ++ map (λ (c : ℕ). step (reseededState c 1 0) (request 200 []) .number) ((2 ^ 128 - 4) ∷ (2 ^ 128 - 3) ∷ [])
+    ≡ 21 ∷ 23 ∷ 23 ∷ 0 ∷ 0 ∷ 24 ∷ []
+
+-- 15 before 21; a write is 23 where unseeded and takes 6, an update seeds and takes 7, either one more with a due reseed
+abbrev pub SeedRow : Type 0
+SeedRow =
+    answers keyedUnseeded (update 0 (replicate 63 1) ∷ update 0 (replicate 65 1) ∷ update 0 (replicate 64 1) ∷ write 0 [] ∷ write 0 (replicate 64 1) ∷ [])
+    ++ answers fresh (update 0 (replicate 64 1) ∷ write 0 (replicate 64 1) ∷ [])
+    ++ answers (withFirstPool fresh (wholeBlocks 64)) (write 0 (replicate 64 1) ∷ [])
+    ≡ 15 ∷ 15 ∷ 21 ∷ 15 ∷ 21 ∷ 0 ∷ 23 ∷ 0 ∷ []
+
+abbrev pub SeedRoomRow : Type 0
+SeedRoomRow =
+    map (λ (c : ℕ). step (seededState c) (write 0 (replicate 64 1)) .number) ((2 ^ 128 - 7) ∷ (2 ^ 128 - 6) ∷ [])
+    ++ map (λ (c : ℕ). step (reseededState c 1 0) (write 200 (replicate 64 1)) .number) ((2 ^ 128 - 8) ∷ (2 ^ 128 - 7) ∷ [])
+    ++ map (λ (c : ℕ). step (seededState c) (update 0 (replicate 64 1)) .number) ((2 ^ 128 - 8) ∷ (2 ^ 128 - 7) ∷ [])
+    ++ map (λ (c : ℕ). step (reseededState c 1 0) (update 200 (replicate 64 1)) .number) ((2 ^ 128 - 9) ∷ (2 ^ 128 - 8) ∷ [])
+    ≡ 0 ∷ 24 ∷ 0 ∷ 24 ∷ 0 ∷ 24 ∷ 0 ∷ 24 ∷ []
+
+-- a refused call: count 0, the buffer and the state as before
+abbrev pub RefusedRow : Type 0
+RefusedRow =
+    (step fresh (request 0 (1 ∷ 2 ∷ [])) .effect .emptied ≡ 0)
+    × (step fresh (request 0 (1 ∷ 2 ∷ [])) .effect .buffer ≡ 1 ∷ 2 ∷ [])
+    × (step keyedUnseeded (request 0 (1 ∷ 2 ∷ [])) .effect .next ≡ keyedUnseeded)
+    × (step fresh (update 0 (3 ∷ [])) .effect .buffer ≡ 3 ∷ [])
+    × (step fresh (write 0 (4 ∷ [])) .effect .buffer ≡ 4 ∷ [])
+    × (step fresh (write 0 (4 ∷ [])) .effect .next ≡ fresh)
+
+-- 21, the clauses on a pool: too long; bytes after the tail; below 64 bytes with another running hash
+abbrev pub PoolClausesRow : Type 0
+PoolClausesRow =
+    map (λ (p : Hasher). malformed (withFirstPool fresh p))
+    (wholeBlocks 64
+    ∷ record { chain = replicate 8 0; tail = replicate 64 0; length = 2 ^ 61 - 1 }
+    ∷ record { chain = replicate 8 0; tail = replicate 64 0; length = 2 ^ 61 }
+    ∷ record { chain = replicate 8 0; tail = (1 ∷ 2 ∷ replicate 62 0); length = 66 }
+    ∷ record { chain = replicate 8 0; tail = (1 ∷ 2 ∷ 3 ∷ replicate 61 0); length = 66 }
+    ∷ record { chain = replicate 8 0; tail = (replicate 63 0 ++ (1 ∷ [])); length = 66 }
+    ∷ record { chain = emptyPool .chain; tail = (7 ∷ replicate 63 0); length = 1 }
+    ∷ record { chain = set (emptyPool .chain) 7 0; tail = (7 ∷ replicate 63 0); length = 1 }
+    ∷ record { chain = replicate 8 0; tail = replicate 63 7 ++ (0 ∷ []); length = 63 }
+    ∷ [])
+    ≡ false ∷ false ∷ true ∷ false ∷ true ∷ true ∷ false ∷ true ∷ true ∷ []
+
+-- and in the last pool too
+abbrev pub LastPoolRow : Type 0
+LastPoolRow = malformed (withPools fresh (set (fresh .pools) 31 (wholeBlocks (2 ^ 61)))) ≡ true
+
+-- 21, the others: C = 0 with K not all zero; C = 0 with the flag set; the flag clear with time or count not 0
+abbrev pub TimerClausesRow : Type 0
+TimerClausesRow =
+    map malformed
+    (fresh
+    ∷ withTimer 1 1 0 0 false
+    ∷ withTimer 1 0 0 0 false
+    ∷ withTimer 0 0 0 1 true
+    ∷ withTimer 0 1 0 0 true
+    ∷ withTimer 0 1 5 0 false
+    ∷ withTimer 0 1 0 5 false
+    ∷ withTimer 0 1 5 5 true
+    ∷ [])
+    ≡ false ∷ false ∷ true ∷ true ∷ false ∷ true ∷ true ∷ false ∷ []
+
+-- the pools of reseed 6, and the generator's reseed
+abbrev pub UsedRow : Type 0
+UsedRow = usedPools 6 ≡ 0 ∷ 1 ∷ []
+
+abbrev pub ReseedRow : Type 0
+ReseedRow = (w : GeneratorState) (s : List ℕ) → reseed w s ≡ record { key = D (w .key ++ s); count = w .count + 1 }
+
+-- the rows together
+pub record Boundaries : Type 0 where
+  pub events : EventRow
+  pub eventOrder : EventOrderRow
+  pub room : RoomRow
+  pub requests : RequestRow
+  pub seeds : SeedRow
+  pub seedRoom : SeedRoomRow
+  pub refused : RefusedRow
+  pub poolClauses : PoolClausesRow
+  pub lastPool : LastPoolRow
+  pub timerClauses : TimerClausesRow
+  pub usedBySix : UsedRow
+  pub generatorReseed : ReseedRow

@@ -1,0 +1,22 @@
+-- Demand 3, whole: one claim about a list of events, requests with a reading, seed updates and seed writes, in any order, with any
+-- arguments, from a fresh start. It has no hypothesis.
+-- Assumes nothing.
+use mathlib.Core.List.{List}
+use Rattle.pools.specs.Calls.{Call}
+use Rattle.reference.specs.Agreement.{RunIsSteps, Agrees}
+use Rattle.reference.specs.Provenance.{Provenance}
+use Rattle.reference.specs.Timer.{ElapsedLaw, TimerStep}
+use Rattle.reference.specs.Counters.{NoRepeat, counterBlocks}
+
+pub record RunCorrect (calls : List Call) : Type 0 where
+  -- the run is its calls' steps, one after the other
+  pub steps : RunIsSteps
+  -- every number, count, buffer and state is the reference model's
+  pub agreement : Agrees calls
+  -- an accepted event enters the key at the reseed that it is booked for and at no other, in arrival order
+  pub provenance : Provenance calls
+  -- only a pool reseed moves the timer, and whatever call comes next makes one exactly when due
+  pub clock : ElapsedLaw
+  pub timer : (next : Call) → TimerStep calls next
+  -- no counter block is enciphered twice
+  pub counters : NoRepeat (counterBlocks calls)

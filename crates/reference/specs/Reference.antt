@@ -1,0 +1,138 @@
+-- The reference model (01's plain logbook): a run worked out from the calls' arguments alone. It takes nothing of a Fortuna state or of
+-- its answers. Shared with the station are only the refusal chains over plain values, `eventBytes`, `usedPools`, `D` and the generator's steps.
+-- Assumes nothing.
+use mathlib.Core.Bool.{Bool, false, cond, _&&_, _||_}
+use mathlib.Core.List.{List, [], _∷_, _++_}
+use Prim.Native.Nat.{ℕ, _+_, _-_, _*_, _/_, _%_, _^_}
+use lib.Dec.{eqb, leb, ltb}
+use lib.ListN.{length}
+use Rattle.laws.specs.Lists.{joined}
+use Rattle.hash.specs.Double.{D}
+use Rattle.generator.specs.Steps.{GeneratorState, initial, reseed}
+use Rattle.generator.specs.Closed.{closedRandomData}
+use Rattle.pools.specs.Events.{eventBytes}
+use Rattle.pools.specs.Schedule.{usedPools}
+use Rattle.pools.specs.Refusals.{seedSize, eventNumber, requestNumber, writeNumber, updateNumber}
+use Rattle.pools.specs.Effects.{Effect}
+use Rattle.pools.specs.Calls.{Call, event, request, update, write, inputBuffer, Outcome, outcome, runFrom, stateFrom}
+
+-- an accepted event: the place of its call in the list, its pool, the bytes that the pool gained, and its r, the R at that moment
+pub record Accepted : Type 0 where
+  pub place : ℕ
+  pub pool : ℕ
+  pub bytes : List ℕ
+  pub reseedsBefore : ℕ
+
+-- K and C, the mark, R (never wrapped), and the accepted events in arrival order
+pub record Reference : Type 0 where
+  pub generator : GeneratorState
+  pub lastReseed : ℕ
+  pub reseeds : ℕ
+  pub events : List Accepted
+
+-- 0 everywhere and no events
+unfoldable pub empty : Reference
+empty = record { generator = initial; lastReseed = 0; reseeds = 0; events = [] }
+
+-- ---- the schedule
+
+-- the reseed that an event of pool i is booked for, accepted after r reseeds
+unfoldable pub scheduledReseed : ℕ → ℕ → ℕ
+scheduledReseed i r = 2 ^ i * (r / 2 ^ i + 1)
+
+unfoldable pub scheduled : Accepted → ℕ
+scheduled e = scheduledReseed (e .pool) (e .reseedsBefore)
+
+-- the events that pass a test, in order
+unfoldable pub select : (Accepted → Bool) → List Accepted → List Accepted
+select t [] = []
+select t (e ∷ es) = cond (t e) (e ∷ select t es) (select t es)
+
+-- of pool i, booked above n; of pool i, booked for n
+unfoldable pub pending : ℕ → ℕ → Accepted → Bool
+pending n i e = eqb (e .pool) i && ltb n (scheduled e)
+
+unfoldable pub consumedAt : ℕ → ℕ → Accepted → Bool
+consumedAt n i e = eqb (e .pool) i && eqb (scheduled e) n
+
+-- the events' bytes, joined
+unfoldable pub contents : List Accepted → List ℕ
+contents es = joined (λ e. e .bytes) es
+
+-- the bytes that pool i holds: those of its events booked above R
+unfoldable pub poolContents : Reference → ℕ → List ℕ
+poolContents b i = contents (select (pending (b .reseeds) i) (b .events))
+
+-- due: pool 0 holds 64 bytes or more, and R = 0 or the reading minus the mark, modulo 2^32, is above 100
+unfoldable pub dueAt : Reference → ℕ → Bool
+dueAt b clock =
+    leb 64 (length (poolContents b 0))
+    && (eqb (b .reseeds) 0 || ltb 100 ((clock % 2 ^ 32 + 2 ^ 32 - b .lastReseed % 2 ^ 32) % 2 ^ 32))
+
+-- ---- what an accepted call does
+
+-- an event is noted with r = R
+unfoldable pub appendEvent : ℕ → Reference → ℕ → List ℕ → Reference
+appendEvent place b i bytes =
+    record {
+      generator = b .generator;
+      lastReseed = b .lastReseed;
+      reseeds = b .reseeds;
+      events = b .events ++ (record { place = place; pool = i; bytes = bytes; reseedsBefore = b .reseeds } ∷ []);
+    }
+
+unfoldable pub withState : Reference → GeneratorState → Reference
+withState b w = record { generator = w; lastReseed = b .lastReseed; reseeds = b .reseeds; events = b .events }
+
+-- for each i with 2^i dividing n, D of the bytes of pool i's events booked for n, joined in rising i
+unfoldable pub scheduledDigests : Reference → ℕ → List ℕ
+scheduledDigests b n = joined (λ i. D (contents (select (consumedAt n i) (b .events)))) (usedPools n)
+
+-- R grows by 1, the reading becomes the mark, and the generator is reseeded
+unfoldable pub referenceReseed : Reference → ℕ → Reference
+referenceReseed b clock =
+    record {
+      generator = reseed (b .generator) (scheduledDigests b (b .reseeds + 1));
+      lastReseed = clock;
+      reseeds = b .reseeds + 1;
+      events = b .events;
+    }
+
+unfoldable pub referenceReseedIfDue : Reference → ℕ → Reference
+referenceReseedIfDue b clock = cond (dueAt b clock) (referenceReseed b clock) b
+
+-- the count: how many D there were; 0 where none was due
+unfoldable pub referenceCount : Reference → ℕ → ℕ
+referenceCount b clock = cond (dueAt b clock) (length (usedPools (b .reseeds + 1))) 0
+
+-- a request for n bytes
+unfoldable pub referenceRequest : Reference → ℕ → ℕ → Effect Reference
+referenceRequest b clock n =
+    let r = referenceReseedIfDue b clock in
+    let made = closedRandomData (r .generator) n in
+    record { emptied = referenceCount b clock; buffer = made .bytes; next = withState r (made .next); trace = made .trace }
+
+-- ---- the calls; 21 never arises
+
+unfoldable pub referenceNumber : Reference → Call → ℕ
+referenceNumber b (event source pool content) = eventNumber false (length (poolContents b pool)) source pool (length content)
+referenceNumber b (request clock buffer) = requestNumber false (b .generator .count) (dueAt b clock) (length buffer)
+referenceNumber b (update clock seed) = updateNumber false (b .generator .count) (dueAt b clock) seed
+referenceNumber b (write clock seed) = writeNumber false (b .generator .count) (dueAt b clock) seed
+
+-- an update: the 64 bytes reseed the generator, then as a request for 64 bytes; a write: as a request for 64 bytes
+unfoldable pub referenceEffect : ℕ → Reference → Call → Effect Reference
+referenceEffect place b (event source pool content) =
+    record { emptied = 0; buffer = []; next = appendEvent place b pool (eventBytes source content); trace = [] }
+referenceEffect place b (request clock buffer) = referenceRequest b clock (length buffer)
+referenceEffect place b (update clock seed) = referenceRequest (withState b (reseed (b .generator) seed)) clock seedSize
+referenceEffect place b (write clock seed) = referenceRequest b clock seedSize
+
+unfoldable pub referenceStep : ℕ → Reference → Call → Outcome Reference
+referenceStep place b c = outcome (referenceNumber b c) (inputBuffer c) b (referenceEffect place b c)
+
+unfoldable pub referenceRun : List Call → List (Outcome Reference)
+referenceRun calls = runFrom referenceStep 0 empty calls
+
+unfoldable pub referenceAfter : List Call → Reference
+referenceAfter calls = stateFrom referenceStep 0 empty calls

@@ -1,0 +1,54 @@
+-- Demand 3, the timer, over the station's run and spelled out: when a call makes a pool reseed, and that nothing else moves the mark.
+-- Assumes nothing.
+use mathlib.Core.Path.{_≡_}
+use mathlib.Core.Bool.{cond}
+use mathlib.Core.Logic.{_↔_, _⊎_}
+use mathlib.Core.List.{List, [], _∷_}
+use Prim.Native.Nat.{ℕ, _+_, _%_, _^_, _≤_, _<_}
+use lib.Dec.{ltb}
+use Rattle.pools.specs.declared.Fortuna.{Fortuna}
+use Rattle.pools.specs.Schedule.{elapsed}
+use Rattle.pools.specs.State.{poolAt}
+use Rattle.pools.specs.Calls.{Call, event, request, update, write, Outcome, step, run, stateAfter}
+
+-- the pool reseeds made in a run: the calls that emptied a pool
+unfoldable pub poolReseeds : List (Outcome Fortuna) → ℕ
+poolReseeds [] = 0
+poolReseeds (o ∷ os) = cond (ltb 0 (o .effect .emptied)) 1 0 + poolReseeds os
+
+unfoldable pub reseedsAfter : List Call → ℕ
+reseedsAfter calls = poolReseeds (run calls)
+
+-- a call with a clock reading, and the reading
+abbrev pub Clocked : Call → Type 0
+Clocked (event source pool content) = ⊥
+Clocked (request clock buffer) = Unit {0}
+Clocked (update clock seed) = Unit {0}
+Clocked (write clock seed) = Unit {0}
+
+unfoldable pub readingOf : Call → ℕ
+readingOf (event source pool content) = 0
+readingOf (request clock buffer) = clock
+readingOf (update clock seed) = clock
+readingOf (write clock seed) = clock
+
+-- the clock shows `reading` e milliseconds after it showed `mark`
+abbrev pub Later : ℕ → ℕ → ℕ → Type 0
+Later mark e reading = (e < 2 ^ 32) × ((mark + e) % 2 ^ 32 ≡ reading % 2 ^ 32)
+
+-- elapsed is that e
+abbrev pub ElapsedLaw : Type 0
+ElapsedLaw = (reading mark : ℕ) → Later mark (elapsed reading mark) reading
+
+-- whatever call comes next
+pub record TimerStep (calls : List Call) (c : Call) : Type 0 where
+  -- it empties pools exactly if it is accepted, has a reading, pool 0 holds 64 bytes or more, and no reseed was made yet or more than
+  -- 100 ms went by since the last
+  pub reseeds :
+      (0 < step (stateAfter calls) c .effect .emptied)
+      ↔ ((step (stateAfter calls) c .number ≡ 0) × Clocked c × (64 ≤ poolAt (stateAfter calls) 0 .length)
+      × ((reseedsAfter calls ≡ 0) ⊎ ((e : ℕ) × Later (stateAfter calls .«last_reseed») e (readingOf c) × (100 < e))))
+  -- the mark moves exactly then, to the reading
+  pub mark :
+      step (stateAfter calls) c .effect .next .«last_reseed»
+      ≡ cond (ltb 0 (step (stateAfter calls) c .effect .emptied)) (readingOf c) (stateAfter calls .«last_reseed»)
