@@ -9,14 +9,14 @@ use lib.ListN.{length}
 use Rattle.generator.specs.Steps.{decode, encode, reseed, pseudoRandomData}
 use Rattle.generator.specs.declared.Generator.{Generator}
 use Rattle.pools.specs.declared.Fortuna.{Fortuna}
-use Rattle.pools.specs.Events.{poolCount}
+use Rattle.pools.specs.Events.{poolCount, eventBytes}
 use Rattle.pools.specs.State.{poolAt, due}
 use Rattle.pools.specs.Refusals.{seedSize}
 use Rattle.pools.specs.Effects.{Effect, nextReseed, digests, withGenerator, poolReseed, reseedIfDue, randomData, reseedWithSeed, updateSeed, writeSeed}
 use Rattle.pools.specs.Calls.{Call, event, request, update, write, callNumber, callEffect, step, stateAfter}
 use Rattle.reference.specs.Reference.{Accepted, scheduledReseed, scheduled, referenceNumber, referenceAfter}
 use Rattle.reference.specs.Timer.{readingOf, reseedsAfter}
-use Rattle.reference.specs.Provenance.{dueFor, traced, Faithful, atReseed, asked, reseededBy, EntersKey, EntersAt, EventEnters, NoEvent, OthersNever, Provenance}
+use Rattle.reference.specs.Provenance.{Piece, pieceOf, dueFor, traced, Faithful, atReseed, asked, reseededBy, EntersKey, EntersAt, EventEnters, NoEvent, OthersNever, Provenance}
 use Rattle.reference.proofs.Acceptance.{event-pool}
 use Rattle.reference.proofs.Agreement.{number-agrees, sound-after, agrees}
 use Rattle.reference.proofs.Advances.{outcome-done, reseeds-after}
@@ -134,6 +134,13 @@ module _ (before : List Call) (source pool : ℕ) (content : List ℕ) (later : 
         (subst (λ k. k ≤ referenceAfter whole .reseeds) (h .1) (h .2))),
   )
 
+  enters-own : (n i : ℕ) (a : EntersAt whole (length before) n i) → a .piece .bytes ≡ eventBytes source content
+  unfolding pieceOf
+  enters-own n i a =
+      let y = entering-booked whole (referenceAfter whole .events) (referenceAfter whole .reseeds) (run-tied whole .tags .uses) (length before) n i a in
+      let e = event-alone before source pool content later model-accepts (y .event) (y .listed) (y .own) in
+      ap (λ (p : Piece). p .bytes) (y .piece) ∙ ap (λ (x : Accepted). x .bytes) e
+
   enters-once :
       (n i : ℕ) →
       EntersAt whole (length before) n i
@@ -145,6 +152,7 @@ event-enters :
 event-enters before source pool content later =
     record {
       once = enters-once before source pool content later;
+      own = enters-own before source pool content later;
       never = λ refused. never-enters before (event source pool content) later (λ e. absurd (refused e));
     }
 

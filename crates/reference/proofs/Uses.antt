@@ -140,18 +140,19 @@ both-true : (x y : Bool) → (x && y) ≡ true → (x ≡ true) × (y ≡ true)
 both-true true y h = (refl, h)
 both-true false y h = absurd (true≢false (sym h))
 
--- an accepted event of a place that is booked for reseed n, one of the first r, through pool i
-pub record Booked (es : List Accepted) (r place n i : ℕ) : Type 0 where
+-- an accepted event of a place that is booked for reseed n, one of the first r, through pool i, and whose piece is p
+pub record Booked (es : List Accepted) (r place n i : ℕ) (p : Piece) : Type 0 where
   pub event : Accepted
   pub listed : List·Memᴰ event es
   pub own : event .place ≡ place
   pub pool : i ≡ event .pool
   pub reseedNumber : n ≡ scheduled event
   pub reached : n ≤ r
+  pub piece : p ≡ pieceOf event
 
 module _ (calls : List Call) (es : List Accepted) (r : ℕ) (uses : traced calls .uses ≡ scheduledUses es r) where
   -- what enters was booked
-  pub entering-booked : (place n i : ℕ) → EntersAt calls place n i → Booked es r place n i
+  pub entering-booked : (place n i : ℕ) (a : EntersAt calls place n i) → Booked es r place n i (a .piece)
   unfolding scheduledUse consumedAt pieceOf
   entering-booked place n i a =
       let y = listed es r (a .poolUse) (subst (List·Memᴰ (a .poolUse)) uses (a .made)) in
@@ -167,6 +168,7 @@ module _ (calls : List Call) (es : List Accepted) (r : ℕ) (uses : traced calls
         pool = sym (a .pool) ∙ ap (λ (u : PoolUse). u .pool) is ∙ sym (eqb-true (c .event .pool) (y .i) (both .0));
         reseedNumber = nn ∙ sym (eqb-true (scheduled (c .event)) (y .n) (both .1));
         reached = omega (arith, nn, y .reached);
+        piece = c .is;
       }
 
   -- and what was booked enters

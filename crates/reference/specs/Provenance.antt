@@ -166,13 +166,16 @@ pub record EntersAt (calls : List Call) (place n i : ℕ) : Type 0 where
   pub own : piece .place ≡ place
 
 -- an event of a list: accepted, it enters through its pool at reseed 2^i × (floor(r / 2^i) + 1), r the pool reseeds made before it,
--- if the run reaches that, and at no other; refused, it never enters
+-- if the run reaches that, and at no other, and what enters are its own bytes; refused, it never enters
 pub record EventEnters (before : List Call) (source pool : ℕ) (content : List ℕ) (later : List Call) : Type 0 where
   pub once :
       callNumber (stateAfter before) (event source pool content) ≡ 0 → (n i : ℕ) →
       EntersAt (before ++ (event source pool content ∷ later)) (length before) n i
       ↔ ((i ≡ pool) × (n ≡ 2 ^ pool * (reseedsAfter before / 2 ^ pool + 1))
       × (n ≤ reseedsAfter (before ++ (event source pool content ∷ later))))
+  pub own :
+      callNumber (stateAfter before) (event source pool content) ≡ 0 → (n i : ℕ) →
+      (e : EntersAt (before ++ (event source pool content ∷ later)) (length before) n i) → e .piece .bytes ≡ eventBytes source content
   pub never :
       (callNumber (stateAfter before) (event source pool content) ≡ 0 → ⊥) → (n i : ℕ) →
       EntersAt (before ++ (event source pool content ∷ later)) (length before) n i → ⊥
