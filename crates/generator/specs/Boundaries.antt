@@ -5,7 +5,7 @@ use mathlib.Core.List.{[], _∷_, _++_, map}
 use Prim.Native.Nat.{ℕ, _+_, _-_, _^_}
 use lib.ListN.{replicate}
 use Rattle.generator.specs.Counter.{value, littleEndian}
-use Rattle.generator.specs.Steps.{GeneratorState, initial, blockCount}
+use Rattle.generator.specs.Steps.{GeneratorState, initial, blockCount, pseudoRandomData}
 use Rattle.generator.specs.Refusals.{reseedNumber, blocksNumber, requestNumber}
 
 -- a state with a key that is not zero and the counter c
@@ -35,6 +35,10 @@ ValuesRow =
 -- blocks of n bytes: ceil(n / 16)
 abbrev pub BlockCountsRow : Type 0
 BlockCountsRow = map blockCount (0 ∷ 1 ∷ 15 ∷ 16 ∷ 17 ∷ 1048576 ∷ []) ≡ 0 ∷ 1 ∷ 1 ∷ 1 ∷ 2 ∷ 65536 ∷ []
+
+-- what C grows by in a request of n bytes, from C = 1: its blocks and two more, also where no byte is asked for
+abbrev pub GrowthRow : Type 0
+GrowthRow = map (λ (n : ℕ). pseudoRandomData (keyed 1) n .next .count) (0 ∷ 1 ∷ 16 ∷ 17 ∷ []) ≡ 3 ∷ 4 ∷ 4 ∷ 5 ∷ []
 
 -- 14: above 1,048,576 bytes
 abbrev pub RequestSizesRow : Type 0
@@ -86,6 +90,7 @@ pub record Boundaries : Type 0 where
   pub bytes : BytesRow
   pub values : ValuesRow
   pub blockCounts : BlockCountsRow
+  pub growth : GrowthRow
   pub requestSizes : RequestSizesRow
   pub blocksSizes : BlocksSizesRow
   pub seedSizes : SeedSizesRow
