@@ -13,10 +13,11 @@ ghost use Prim.Native.Nat.{_+_, _≤_};
 ghost use lib.ListN.{length};
 ghost use Rattle.generator.specs.Counter.{maxCounter};
 ghost use Rattle.generator.specs.Steps.{decode, encode, reseed, blockData, pseudoRandomData, blockCount};
-ghost use Rattle.generator.specs.Refusals.{malformed, unseeded, maxSeed, stateNumber, reseedNumber, outputNumber};
+ghost use Rattle.generator.specs.Refusals.{malformed, unseeded, spent, maxSeed, stateNumber, reseedNumber, outputNumber};
 ghost use Rattle.generator.specs.Operations.{number, fresh, reseedAnswer, reseeded, blocksAnswer, blocksMade, blocksBuffer, requestAnswer, requested, requestBuffer};
 
 // Key and counter; the counter is held least significant byte first, and 0 means unseeded.
+#[repr(C)]
 pub struct Generator {
     pub key: [u8; 32],
     pub counter: [u8; 16],
@@ -42,7 +43,8 @@ impl Generator {
         }
     }
 
-    fn is_unseeded(self) -> bool
+    // Whether the counter is 0.
+    pub fn is_unseeded(self) -> bool
         ensures { λ r. ⌜ r ≡ unseeded (decode self) ⌝ }
     {
         let counter = self.counter;
@@ -50,7 +52,7 @@ impl Generator {
     }
 
     // Whether the counter is 0 and the key is not.
-    fn is_malformed(self) -> bool
+    pub fn is_malformed(self) -> bool
         ensures { λ r. ⌜ r ≡ malformed (decode self) ⌝ }
     {
         if self.is_unseeded() {
@@ -58,6 +60,14 @@ impl Generator {
             return !all_zero(&key);
         }
         false
+    }
+
+    // Whether the counter cannot grow by k.
+    pub fn is_spent(self, k: u32) -> bool
+        ensures { λ r. ⌜ r ≡ spent (decode self) k ⌝ }
+    {
+        let counter = self.counter;
+        is_spent(counter, k)
     }
 
     // The answer where b blocks are to be made.
@@ -70,8 +80,7 @@ impl Generator {
         if self.is_unseeded() {
             return Answer::Unseeded;
         }
-        let counter = self.counter;
-        if is_spent(counter, b) {
+        if self.is_spent(b) {
             return Answer::CounterSpent;
         }
         Answer::Done
@@ -98,8 +107,7 @@ impl Generator {
         if self.is_malformed() {
             return Answer::Malformed;
         }
-        let counter = self.counter;
-        if is_spent(counter, 1) {
+        if self.is_spent(1) {
             return Answer::CounterSpent;
         }
         Answer::Done

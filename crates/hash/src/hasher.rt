@@ -22,6 +22,7 @@ ghost use Rattle.hash.specs.Double.{maxMessage, maxPoolLength, emptyPool
 ghost use Rattle.hash.specs.Answers.{number, lengthNumber, digestWithin, absorbed};
 
 // The hash value over the whole blocks so far, the bytes after them with zeros behind, and the count of all bytes.
+#[repr(C)]
 pub struct Hasher {
     pub chain: [u32; 8],
     pub tail: [u8; 64],

@@ -3,6 +3,7 @@ use generator::Generator;
 use hash::Hasher;
 
 // The state. last_reseed is the clock at the last pool reseed, reseed_count their number modulo 2^32, reseeded whether one was made.
+#[repr(C)]
 pub struct Fortuna {
     pub generator: Generator,
     pub pools: [Hasher; 32],
