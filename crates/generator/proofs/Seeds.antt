@@ -4,7 +4,7 @@ use mathlib.Core.Path.{_≡_}
 use mathlib.Core.Bool.{true, false}
 use Prim.Native.Nat.{ℕ, _+_, _-_, _≤_, _<_}
 use native.Mathlib.Omega.{arith}
-use lib.Dec.{ltb}
+use lib.Dec.{ltb, lit≤}
 use borrow.Author.Tests.{lt-ltb, le-ltb}
 use Rattle.hash.specs.Double.{maxDMessage}
 use Rattle.hash.proofs.Laws.{d-message-room}
@@ -19,4 +19,4 @@ short m n e h = le-ltb (maxDMessage - 32) n (rw e at h)
 -- the key and a seed within the limit are a message that D takes
 pub joined-fits : (n : ℕ) → n ≤ maxSeed → 32 + n ≤ maxDMessage
 unfolding maxSeed
-joined-fits n h = let r : 32 ≤ maxDMessage = d-message-room in omega arith
+joined-fits n h = let r : 32 ≤ maxDMessage = d-message-room 32 (lit≤ tt) in omega arith

@@ -2,12 +2,15 @@
 mod answer;
 mod counter;
 mod output;
+mod sizes;
 
 pub use answer::Answer;
 use counter::increment;
 use counter::is_spent;
 use laws::all_zero;
 use output::fill;
+pub use sizes::block_count;
+pub use sizes::max_request;
 ghost use mathlib.Core.Path.{_≡_};
 ghost use Prim.Native.Nat.{_+_, _≤_};
 ghost use lib.ListN.{length};
@@ -28,9 +31,6 @@ pub struct Outcome {
     pub answer: Answer,
     pub next: Generator,
 }
-
-// The most bytes of one request.
-const MAX_REQUEST: usize = 1048576;
 
 impl Generator {
     // The state before any seed.
@@ -91,10 +91,10 @@ impl Generator {
         requires { ⌜ more ≤ 2 ⌝ }
         ensures { λ r. ⌜ number r ≡ outputNumber (decode self) n more ⌝ }
     {
-        if n > MAX_REQUEST {
+        if n > max_request() {
             return Answer::RequestTooLong;
         }
-        self.output_state_answer(((n + 15) / 16) as u32 + more)
+        self.output_state_answer(block_count(n) as u32 + more)
     }
 
     // The answer to a reseed with n bytes.

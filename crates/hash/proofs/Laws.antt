@@ -3,7 +3,7 @@
 use mathlib.Core.Path.{_≡_, refl, sym, ap, _∙_}
 use mathlib.Core.List.{List, [], _++_}
 use Prim.Native.Nat.{ℕ, _+_, _-_, _*_, _/_, _%_, _≤_, _<_}
-use native.Mathlib.Nat.{div-eq-of-lt}
+use native.Mathlib.Nat.{div-eq-of-lt, le-trans}
 use native.Mathlib.Omega.{arith}
 use lib.ListN.{length, drop, replicate, length-append, length-drop, length-replicate}
 use lib.Dec.{lit≤}
@@ -147,10 +147,10 @@ pub pool-length-fits : (n : ℕ) → n ≤ maxPoolLength → n ≤ maxMessage
 unfolding maxPoolLength maxDMessage
 pool-length-fits n h = h
 
--- D takes a key and more
-pub d-message-room : 32 ≤ maxDMessage
+-- D takes a key and the digests of all pools
+pub d-message-room : (n : ℕ) → n ≤ 1056 → n ≤ maxDMessage
 unfolding maxDMessage maxMessage
-d-message-room = lit≤ tt
+d-message-room n h = le-trans h (lit≤ tt)
 
 -- ---- answers
 

@@ -5,3 +5,6 @@ pub mod State
 pub mod Refusals
 pub mod Effects
 pub mod Calls
+pub mod Masks
+pub mod Collected
+pub mod Promises

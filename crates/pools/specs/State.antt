@@ -7,7 +7,7 @@ use lib.Dec.{eqb}
 use lib.ListN.{getD, replicate}
 use Rattle.hash.specs.Double.{emptyPool}
 use Rattle.hash.specs.declared.hasher.Hasher.{Hasher}
-use Rattle.generator.specs.Steps.{decode}
+use Rattle.generator.specs.Steps.{GeneratorState, decode}
 use Rattle.generator.specs.Refusals as Generator
 use Rattle.generator.specs.Operations as Operations
 use Rattle.pools.specs.Events.{poolCount}
@@ -40,17 +40,23 @@ anyPool t [] = false
 anyPool t (p ∷ ps) = t p || anyPool t ps
 
 -- 21: C = 0 with a reseed made
-unfoldable pub unseededReseeded : Fortuna → Bool
-unseededReseeded s = eqb (counterOf s) 0 && s .reseeded
+unfoldable pub unseededReseeded : ℕ → Bool → Bool
+unseededReseeded c reseeded = eqb c 0 && reseeded
 
 -- 21: no reseed made, and its time or its count not 0
-unfoldable pub strayTimer : Fortuna → Bool
-strayTimer s = not (s .reseeded) && not (eqb (s .«last_reseed») 0 && eqb (s .«reseed_count») 0)
+unfoldable pub strayTimer : Bool → ℕ → ℕ → Bool
+strayTimer reseeded last count = not reseeded && not (eqb last 0 && eqb count 0)
 
--- 21, all clauses: of the pools, of K and C, of C and the flag, of the flag and the timer
+-- 21, the clauses of K and C, of C and the flag, of the flag and the timer
+unfoldable pub malformedFields : GeneratorState → Bool → ℕ → ℕ → Bool
+malformedFields w reseeded last count =
+    Generator.malformed w || unseededReseeded (w .count) reseeded || strayTimer reseeded last count
+
+-- 21, all clauses
 unfoldable pub malformed : Fortuna → Bool
 malformed s =
-    anyPool malformedPool (s .pools) || Generator.malformed (decode (s .generator)) || unseededReseeded s || strayTimer s
+    anyPool malformedPool (s .pools)
+    || malformedFields (decode (s .generator)) (s .reseeded) (s .«last_reseed») (s .«reseed_count»)
 
 -- a pool reseed is due at a reading
 unfoldable pub due : Fortuna → ℕ → Bool

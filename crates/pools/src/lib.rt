@@ -1,6 +1,31 @@
 // Fortuna: the generator with 32 pools, the timer of the pool reseeds, and seeds (004, 9.5 and 9.6).
+mod answer;
+mod events;
+mod refusals;
+mod schedule;
+mod well_formed;
+
+pub use answer::Answer;
+use events::gained;
 use generator::Generator;
 use hash::Hasher;
+use refusals::event_answer;
+use refusals::request_answer;
+use refusals::update_answer;
+use refusals::write_answer;
+use schedule::collect_digests;
+use schedule::is_due;
+use well_formed::fields_malformed;
+use well_formed::masks;
+use well_formed::pool_malformed;
+ghost use mathlib.Core.Path.{_≡_};
+ghost use lib.ListN.{length};
+ghost use Rattle.pools.specs.State.{fresh, malformed, due};
+ghost use Rattle.pools.specs.Schedule.{usedPools};
+ghost use Rattle.pools.specs.Effects.{nextReseed, poolReseed, randomData};
+ghost use Rattle.pools.specs.Calls.{event, request, update, write, step};
+ghost use Rattle.pools.specs.Collected.{Reseedable, Servable};
+ghost use Rattle.pools.specs.Promises.{Gives, GivesBytes};
 
 // The state. last_reseed is the clock at the last pool reseed, reseed_count their number modulo 2^32, reseeded whether one was made.
 #[repr(C)]
@@ -10,4 +35,205 @@ pub struct Fortuna {
     pub last_reseed: u32,
     pub reseed_count: u32,
     pub reseeded: bool,
+}
+
+// The answer, the pools emptied, and the state that follows.
+pub struct Outcome {
+    pub answer: Answer,
+    pub emptied: u32,
+    pub next: Fortuna,
+}
+
+// What an accepted call leaves.
+struct Served {
+    emptied: u32,
+    next: Fortuna,
+}
+
+impl Fortuna {
+    // The state before any event or seed.
+    pub fn new() -> Fortuna
+        ensures { λ r. ⌜ r ≡ fresh ⌝ }
+    {
+        let generator = Generator::new();
+        let empty = Hasher::empty_pool();
+        Fortuna {
+            generator: generator,
+            pools: [empty; 32],
+            last_reseed: 0,
+            reseed_count: 0,
+            reseeded: false,
+        }
+    }
+
+    // 21: the pools, then the other fields.
+    fn is_malformed(self) -> bool
+        ensures { λ r. ⌜ r ≡ malformed self ⌝ }
+    {
+        let masks = masks();
+        let mut malformed = fields_malformed(
+            self.generator,
+            self.reseeded,
+            self.last_reseed,
+            self.reseed_count,
+        );
+        let mut k: usize = 0;
+        while k < 32 {
+            let pool = self.pools[k];
+            malformed = malformed | pool_malformed(pool, &masks);
+            k += 1;
+        }
+        malformed
+    }
+
+    fn is_due(self, clock: u32) -> bool
+        ensures { λ r. ⌜ r ≡ due self clock ⌝ }
+    {
+        let first = self.pools[0];
+        is_due(first.length, self.reseeded, self.last_reseed, clock)
+    }
+
+    // The pool reseed: the digests of the pools that it uses go into the generator, and these pools are emptied.
+    fn reseed(self, clock: u32) -> Served
+        requires { ⌜ Reseedable self ⌝ }
+        ensures { λ r. ⌜ (r .emptied ≡ length (usedPools (nextReseed self))) × (r .next ≡ poolReseed self clock) ⌝ }
+    {
+        let number = std::num::wrapping_add_u32(self.reseed_count, 1);
+        let pools = self.pools;
+        let collected = collect_digests(pools, number);
+        let count = collected.count;
+        let end = 32 * count;
+        let seed = collected.seed;
+        let outcome = self.generator.reseed(&seed[..end]);
+        let generator = outcome.next;
+        let left = collected.pools;
+        Served {
+            emptied: count as u32,
+            next: Fortuna {
+                generator: generator,
+                pools: left,
+                last_reseed: clock,
+                reseed_count: number,
+                reseeded: true,
+            },
+        }
+    }
+
+    // An accepted request: the pool reseed if due, then the generator's request.
+    fn serve(mut self, reseeds: bool, clock: u32, out: &mut [u8]) -> Served
+        requires { ⌜ (reseeds ≡ due self clock) × Servable self clock (length (now out)) ⌝ }
+        ensures { λ r. ⌜ (r .emptied ≡ randomData self clock (length (now (out .entry))) .emptied) × (r .next ≡ randomData self clock (length (now (out .entry))) .next) × (now (out .exit) ≡ randomData self clock (length (now (out .entry))) .buffer) ⌝ }
+    {
+        let mut emptied = 0u32;
+        if reseeds {
+            let reseeded = self.reseed(clock);
+            emptied = reseeded.emptied;
+            let next = reseeded.next;
+            self = next;
+        }
+        let outcome = self.generator.pseudo_random_data(out);
+        let generator = outcome.next;
+        self.generator = generator;
+        Served {
+            emptied: emptied,
+            next: self,
+        }
+    }
+
+    // An event from a source into a pool.
+    pub fn add_event(mut self, source: u32, pool: u32, data: &[u8]) -> Outcome
+        ensures { λ r. ⌜ Gives (step self (event source pool (now («data» .entry)))) r ⌝ }
+    {
+        let masks = masks();
+        let mut malformed = fields_malformed(
+            self.generator,
+            self.reseeded,
+            self.last_reseed,
+            self.reseed_count,
+        );
+        let mut k: usize = 0;
+        while k < 32 {
+            let p = self.pools[k];
+            malformed = malformed | pool_malformed(p, &masks);
+            k += 1;
+        }
+        let i = (pool % 32) as usize;
+        let held = self.pools[i];
+        let answer = event_answer(malformed, held.length, source, pool, data.len());
+        if answer.is_done() {
+            let next = gained(held, source, data);
+            self.pools[i] = next;
+        }
+        Outcome {
+            answer: answer,
+            emptied: 0,
+            next: self,
+        }
+    }
+
+    // Fills the buffer with random bytes, at a reading of the clock.
+    pub fn random_data(mut self, clock: u32, out: &mut [u8]) -> Outcome
+        ensures { λ r. ⌜ GivesBytes (step self (request clock (now (out .entry)))) r (now (out .exit)) ⌝ }
+    {
+        let malformed = self.is_malformed();
+        let reseeds = self.is_due(clock);
+        let answer = request_answer(malformed, self.generator, reseeds, out.len());
+        let mut emptied = 0u32;
+        if answer.is_done() {
+            let served = self.serve(reseeds, clock, out);
+            emptied = served.emptied;
+            let next = served.next;
+            self = next;
+        }
+        Outcome {
+            answer: answer,
+            emptied: emptied,
+            next: self,
+        }
+    }
+
+    // Fills the 64 bytes with a new seed.
+    pub fn write_seed(mut self, clock: u32, seed: &mut [u8]) -> Outcome
+        ensures { λ r. ⌜ GivesBytes (step self (write clock (now (seed .entry)))) r (now (seed .exit)) ⌝ }
+    {
+        let malformed = self.is_malformed();
+        let reseeds = self.is_due(clock);
+        let answer = write_answer(malformed, self.generator, reseeds, seed);
+        let mut emptied = 0u32;
+        if answer.is_done() {
+            let served = self.serve(reseeds, clock, seed);
+            emptied = served.emptied;
+            let next = served.next;
+            self = next;
+        }
+        Outcome {
+            answer: answer,
+            emptied: emptied,
+            next: self,
+        }
+    }
+
+    // The 64 bytes reseed the generator, then a new seed overwrites them.
+    pub fn update_seed(mut self, clock: u32, seed: &mut [u8]) -> Outcome
+        ensures { λ r. ⌜ GivesBytes (step self (update clock (now (seed .entry)))) r (now (seed .exit)) ⌝ }
+    {
+        let malformed = self.is_malformed();
+        let reseeds = self.is_due(clock);
+        let answer = update_answer(malformed, self.generator, reseeds, seed);
+        let mut emptied = 0u32;
+        if answer.is_done() {
+            let outcome = self.generator.reseed(seed);
+            let generator = outcome.next;
+            self.generator = generator;
+            let served = self.serve(reseeds, clock, seed);
+            emptied = served.emptied;
+            let next = served.next;
+            self = next;
+        }
+        Outcome {
+            answer: answer,
+            emptied: emptied,
+            next: self,
+        }
+    }
 }

@@ -24,7 +24,7 @@ use Rattle.reference.specs.Reference.{Reference, empty, poolContents, du
 use Rattle.reference.specs.Agreement.{concrete, concreteOutcome, RunIsSteps, Agrees}
 use Rattle.reference.proofs.Invariant.{Sound, sound-empty, sound-event, empty-contents}
 use Rattle.reference.proofs.Concrete.{size-concrete, counter-concrete, due-concrete, malformed-concrete}
-use Rattle.reference.proofs.Acceptance.{event-pool, event-room, event-size, request-room, write-room, update-room}
+use Rattle.pools.proofs.Acceptance.{event-passed, event-room, event-size, request-room, write-room, update-room}
 use Rattle.reference.proofs.Advances.{outcome-keeps}
 use Rattle.reference.proofs.Simulation.{concreteEffect, add-event-concrete}
 use Rattle.reference.proofs.Requests.{request-agrees, request-sound, update-agrees, update-sound}
@@ -54,20 +54,20 @@ module _ (b : Reference) (s : Sound b) where
       λ i. record {
         emptied = 0;
         buffer = [];
-        next = add-event-concrete place b pool (eventBytes source content) (event-pool _ source pool (length content) e) i;
+        next = add-event-concrete place b pool (eventBytes source content) (event-passed false _ source pool (length content) e .place) i;
         trace = [];
       }
-  effect-agrees place (request t buffer) e = request-agrees b t (length buffer) s (request-room (b .generator .count) (dueAt b t) (length buffer) e)
-  effect-agrees place (update t seed) e = update-agrees b seed t s (update-room (b .generator .count) (dueAt b t) seed e)
-  effect-agrees place (write t seed) e = unfold writeSeed in request-agrees b t seedSize s (write-room (b .generator .count) (dueAt b t) seed e)
+  effect-agrees place (request t buffer) e = request-agrees b t (length buffer) s (request-room false (b .generator .count) (dueAt b t) (length buffer) e)
+  effect-agrees place (update t seed) e = update-agrees b seed t s (update-room false (b .generator .count) (dueAt b t) seed e)
+  effect-agrees place (write t seed) e = unfold writeSeed in request-agrees b t seedSize s (write-room false (b .generator .count) (dueAt b t) seed e)
 
   pub effect-sound : (place : ℕ) (c : Call) → referenceNumber b c ≡ 0 → Sound (referenceEffect place b c .next)
   unfolding referenceNumber referenceEffect
   effect-sound place (event source pool content) e =
-      sound-event place b pool (eventBytes source content) (rw (event-length source content) (event-room _ source pool (length content) e)) s
-  effect-sound place (request t buffer) e = request-sound b t (length buffer) s (request-room (b .generator .count) (dueAt b t) (length buffer) e)
-  effect-sound place (update t seed) e = update-sound b seed t s (update-room (b .generator .count) (dueAt b t) seed e)
-  effect-sound place (write t seed) e = request-sound b t seedSize s (write-room (b .generator .count) (dueAt b t) seed e)
+      sound-event place b pool (eventBytes source content) (rw (event-length source content) (event-room false _ source pool (length content) e)) s
+  effect-sound place (request t buffer) e = request-sound b t (length buffer) s (request-room false (b .generator .count) (dueAt b t) (length buffer) e)
+  effect-sound place (update t seed) e = update-sound b seed t s (update-room false (b .generator .count) (dueAt b t) seed e)
+  effect-sound place (write t seed) e = request-sound b t seedSize s (write-room false (b .generator .count) (dueAt b t) seed e)
 
 -- ---- refused or not
 

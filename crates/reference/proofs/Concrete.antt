@@ -22,7 +22,7 @@ use Rattle.generator.proofs.Digits.{value-counter}
 use Rattle.pools.specs.Events.{poolCount}
 use Rattle.pools.specs.Pool.{tooLong, dirtyTail, strayChain, malformedPool}
 use Rattle.pools.specs.Schedule.{elapsed, isDue}
-use Rattle.pools.specs.State.{poolAt, counterOf, anyPool, unseededReseeded, strayTimer, malformed, due}
+use Rattle.pools.specs.State.{poolAt, counterOf, anyPool, unseededReseeded, strayTimer, malformedFields, malformed, due}
 use Rattle.reference.specs.Reference.{Reference, poolContents, dueAt}
 use Rattle.reference.specs.Agreement.{concrete}
 use Rattle.reference.proofs.Invariant.{Sound}
@@ -130,11 +130,11 @@ module _ (b : Reference) (s : Sound b) where
   unfolding Generator.malformed
   key-fine = zero-count (not (allZero (b .generator .key))) (λ z. rw (s .keyed z))
 
-  flag-fine : unseededReseeded (concrete b) ≡ false
-  unfolding unseededReseeded
-  flag-fine = rw (counter-concrete b s) (unfold concrete in zero-count (ltb 0 (b .reseeds)) (λ z. rw (s .seeds z)))
+  flag-fine : unseededReseeded (b .generator .count) (concrete b .reseeded) ≡ false
+  unfolding unseededReseeded concrete
+  flag-fine = zero-count (ltb 0 (b .reseeds)) (λ z. rw (s .seeds z))
 
-  timer-fine : strayTimer (concrete b) ≡ false
+  timer-fine : strayTimer (concrete b .reseeded) (concrete b .«last_reseed») (concrete b .«reseed_count») ≡ false
   unfolding strayTimer concrete
   timer-fine = by-test (ltb 0 (b .reseeds)) _ (λ e. rw e) (λ e. none (omega (arith, ltb-false 0 (b .reseeds) e)))
     where
@@ -142,5 +142,5 @@ module _ (b : Reference) (s : Sound b) where
       none z = rw (s .marked z, z)
 
   pub malformed-concrete : malformed (concrete b) ≡ false
-  unfolding malformed
+  unfolding malformed malformedFields
   malformed-concrete = rw (pools-fine, decode-concrete b s, key-fine, flag-fine, timer-fine)

@@ -2,7 +2,6 @@ pub mod Schedule
 pub mod Bookings
 pub mod Invariant
 pub mod Concrete
-pub mod Acceptance
 pub mod Simulation
 pub mod Requests
 pub mod Agreement

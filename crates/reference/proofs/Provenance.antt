@@ -2,7 +2,7 @@
 -- Assumes nothing.
 use mathlib.Core.Path.{_≡_, refl, sym, ap, subst, subst₂, _∙_}
 use mathlib.Core.Logic.{_↔_}
-use mathlib.Core.Bool.{true, true≢false}
+use mathlib.Core.Bool.{false, true, true≢false}
 use mathlib.Core.List.{List, _∷_, _++_}
 use Prim.Native.Nat.{ℕ, _+_, _*_, _/_, _^_, _≤_, _<_}
 use lib.ListN.{length}
@@ -17,7 +17,7 @@ use Rattle.pools.specs.Calls.{Call, event, request, update, write, callNumber, 
 use Rattle.reference.specs.Reference.{Accepted, scheduledReseed, scheduled, referenceNumber, referenceAfter}
 use Rattle.reference.specs.Timer.{readingOf, reseedsAfter}
 use Rattle.reference.specs.Provenance.{Piece, pieceOf, dueFor, traced, Faithful, atReseed, asked, reseededBy, EntersKey, EntersAt, EventEnters, NoEvent, OthersNever, Provenance}
-use Rattle.reference.proofs.Acceptance.{event-pool}
+use Rattle.pools.proofs.Acceptance.{event-passed}
 use Rattle.reference.proofs.Agreement.{number-agrees, sound-after, agrees}
 use Rattle.reference.proofs.Advances.{outcome-done, reseeds-after}
 use Rattle.reference.proofs.Places.{none-at, event-listed, event-alone}
@@ -114,7 +114,7 @@ module _ (before : List Call) (source pool : ℕ) (content : List ℕ) (later : 
   model-accepts = sym (same-number before (event source pool content)) ∙ accepted
 
   one-of-the-pools : pool < poolCount
-  one-of-the-pools = unfold referenceNumber in event-pool _ source pool (length content) model-accepts
+  one-of-the-pools = unfold referenceNumber in event-passed false _ source pool (length content) model-accepts .place
 
   -- in the model's words
   enters-booked :

@@ -1,6 +1,7 @@
 -- `generator::Generator::reseed_answer` meets its contract.
 -- Assumes nothing.
 use Rattle.hash.proofs.Laws.{d-message-room}
+use lib.Dec.{lit≤}
 use Rattle.generator.specs.Refusals.{maxSeed, reseedNumber}
 use Rattle.generator.specs.Operations.{number}
 use Rattle.generator.proofs.Seeds.{long, short}
@@ -12,7 +13,7 @@ max-d-message-requires : tie.Need-max-d-message-requires
 max-d-message-requires c κs = search needs
 
 sub-if1 : tie.Need-sub-if1
-sub-if1 c = rw (c .max-d-message .ensures) d-message-room
+sub-if1 c = rw (c .max-d-message .ensures) (d-message-room 32 (lit≤ tt))
 
 returns : tie.Need-returns
 unfolding number reseedNumber maxSeed

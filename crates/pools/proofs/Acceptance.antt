@@ -1,0 +1,140 @@
+-- What an accepted call has passed.
+-- Assumes nothing.
+use mathlib.Core.Path.{_≡_, refl}
+use mathlib.Core.Bool.{Bool, true, false, cond, _||_}
+use mathlib.Core.List.{List}
+use Prim.Native.Nat.{ℕ, _+_, _-_, _≤_, _<_}
+use native.Mathlib.Omega.{arith}
+use lib.Dec.{eqb, ltb}
+use lib.ListN.{length}
+use borrow.Author.Tests.{ltb-false, eqb-true, eqb-false}
+use Rattle.laws.specs.Refusals.{refuse}
+use Rattle.laws.proofs.Cases.{by-test, cond-cong}
+use Rattle.laws.proofs.Refusals.{passed}
+use Rattle.hash.specs.Double.{maxPoolLength}
+use Rattle.generator.specs.Counter.{maxCounter}
+use Rattle.generator.specs.Steps.{blockCount}
+use Rattle.generator.specs.Refusals.{maxRequest}
+use Rattle.pools.specs.Events.{maxSource, poolCount, maxData, gain}
+use Rattle.pools.specs.Pool.{full}
+use Rattle.pools.specs.Refusals.{andThen, seedSize, unseeded, spent, eventInput, eventState, eventNumber, requestInput, outputState, requestNumber, seedInput, writeNumber, updateState, updateNumber}
+
+-- ---- two chains, one after the other
+
+both-passed : (m n : ℕ) → andThen m n ≡ 0 → (m ≡ 0) × (n ≡ 0)
+unfolding andThen
+both-passed m n e =
+    by-test (eqb m 0) ((m ≡ 0) × (n ≡ 0))
+    (λ t. (eqb-true m 0 t, rw t at e))
+    (λ t. absurd (eqb-false m 0 t (rw t at e)))
+
+-- the second chain counts only where the first has no number
+pub then-cong : (m n n′ : ℕ) → (m ≡ 0 → n ≡ n′) → andThen m n ≡ andThen m n′
+unfolding andThen
+then-cong m n n′ h = cond-cong (eqb m 0) (λ t. h (eqb-true m 0 t)) (λ t. refl)
+
+-- ---- a call that makes b blocks
+
+pub record OutputPassed (m : Bool) (c : ℕ) (due : Bool) (b : ℕ) : Type 0 where
+  pub formed : m ≡ false
+  pub keyed : unseeded c due ≡ false
+  pub room : spent c due b ≡ false
+
+pub not-spent : (c : ℕ) (due : Bool) (b : ℕ) → spent c due b ≡ false → c + cond due 1 0 + b ≤ maxCounter
+unfolding spent
+not-spent c due b e = ltb-false maxCounter (c + cond due 1 0 + b) e
+
+output-passed : (m : Bool) (c : ℕ) (due : Bool) (b : ℕ) → outputState m c due b ≡ 0 → OutputPassed m c due b
+unfolding outputState
+output-passed m c due b e =
+    let p = passed m 21 (refuse (unseeded c due) 23 (refuse (spent c due b) 24 0)) (omega arith) e in
+    let q = passed (unseeded c due) 23 (refuse (spent c due b) 24 0) (omega arith) (p .1) in
+    record { formed = p .0; keyed = q .0; room = passed (spent c due b) 24 0 (omega arith) (q .1) .0 }
+
+pub request-passed : (m : Bool) (c : ℕ) (due : Bool) (n : ℕ) → requestNumber m c due n ≡ 0 → OutputPassed m c due (blockCount n + 2)
+unfolding requestNumber
+request-passed m c due n e = output-passed m c due (blockCount n + 2) (both-passed (requestInput n) (outputState m c due (blockCount n + 2)) e .1)
+
+pub request-room : (m : Bool) (c : ℕ) (due : Bool) (n : ℕ) → requestNumber m c due n ≡ 0 → c + cond due 1 0 + (blockCount n + 2) ≤ maxCounter
+request-room m c due n e = not-spent c due (blockCount n + 2) (request-passed m c due n e .room)
+
+pub request-short : (m : Bool) (c : ℕ) (due : Bool) (n : ℕ) → requestNumber m c due n ≡ 0 → n ≤ maxRequest
+unfolding requestNumber requestInput
+request-short m c due n e =
+    let p = both-passed (refuse (ltb maxRequest n) 14 0) (outputState m c due (blockCount n + 2)) e in
+    ltb-false maxRequest n (passed (ltb maxRequest n) 14 0 (omega arith) (p .0) .0)
+
+-- ---- a seed call
+
+sized : (seed : List ℕ) → seedInput seed ≡ 0 → length seed ≡ seedSize
+unfolding seedInput
+sized seed e = by-test (eqb (length seed) seedSize) (length seed ≡ seedSize) (eqb-true (length seed) seedSize) (λ t. absurd (wrong (rw t at e)))
+  where
+    wrong : _≡_ {A = ℕ} 15 0 → ⊥
+    wrong h = omega arith
+
+pub write-size : (m : Bool) (c : ℕ) (due : Bool) (seed : List ℕ) → writeNumber m c due seed ≡ 0 → length seed ≡ seedSize
+unfolding writeNumber
+write-size m c due seed e = sized seed (both-passed (seedInput seed) (outputState m c due (blockCount seedSize + 2)) e .0)
+
+pub write-passed : (m : Bool) (c : ℕ) (due : Bool) (seed : List ℕ) → writeNumber m c due seed ≡ 0 → OutputPassed m c due (blockCount seedSize + 2)
+unfolding writeNumber
+write-passed m c due seed e = output-passed m c due (blockCount seedSize + 2) (both-passed (seedInput seed) (outputState m c due (blockCount seedSize + 2)) e .1)
+
+pub write-room : (m : Bool) (c : ℕ) (due : Bool) (seed : List ℕ) → writeNumber m c due seed ≡ 0 → c + cond due 1 0 + (blockCount seedSize + 2) ≤ maxCounter
+write-room m c due seed e = not-spent c due (blockCount seedSize + 2) (write-passed m c due seed e .room)
+
+pub update-size : (m : Bool) (c : ℕ) (due : Bool) (seed : List ℕ) → updateNumber m c due seed ≡ 0 → length seed ≡ seedSize
+unfolding updateNumber
+update-size m c due seed e = sized seed (both-passed (seedInput seed) (updateState m c due) e .0)
+
+pub update-passed : (m : Bool) (c : ℕ) (due : Bool) (seed : List ℕ) → updateNumber m c due seed ≡ 0 → (m ≡ false) × (spent c due 7 ≡ false)
+unfolding updateNumber updateState
+update-passed m c due seed e =
+    let s = both-passed (seedInput seed) (refuse m 21 (refuse (spent c due 7) 24 0)) e .1 in
+    let p = passed m 21 (refuse (spent c due 7) 24 0) (omega arith) s in
+    (p .0, passed (spent c due 7) 24 0 (omega arith) (p .1) .0)
+
+pub update-room : (m : Bool) (c : ℕ) (due : Bool) (seed : List ℕ) → updateNumber m c due seed ≡ 0 → c + cond due 1 0 + 7 ≤ maxCounter
+update-room m c due seed e = not-spent c due 7 (update-passed m c due seed e .1)
+
+-- ---- an event
+
+pub record EventPassed (source pool n : ℕ) : Type 0 where
+  pub byte : source ≤ maxSource
+  pub place : pool < poolCount
+  pub short : n ≤ maxData
+
+input-passed : (source pool n : ℕ) → eventInput source pool n ≡ 0 → EventPassed source pool n
+unfolding eventInput poolCount
+input-passed source pool n e =
+    let long : Bool = eqb n 0 || ltb maxData n in
+    let p = passed (ltb maxSource source) 11 (refuse (ltb 31 pool) 12 (refuse long 13 0)) (omega arith) e in
+    let q = passed (ltb 31 pool) 12 (refuse long 13 0) (omega arith) (p .1) in
+    let l = passed long 13 0 (omega arith) (q .1) in
+    record {
+      byte = ltb-false maxSource source (p .0);
+      place = omega (arith, ltb-false 31 pool (q .0));
+      short = ltb-false maxData n (second (eqb n 0) (ltb maxData n) (l .0));
+    }
+  where
+    second : (a b : Bool) → (a || b) ≡ false → b ≡ false
+    second true b e = cc
+    second false b e = e
+
+pub event-passed : (m : Bool) (size source pool n : ℕ) → eventNumber m size source pool n ≡ 0 → EventPassed source pool n
+unfolding eventNumber
+event-passed m size source pool n e = input-passed source pool n (both-passed (eventInput source pool n) (eventState m size n) e .0)
+
+pub event-room : (m : Bool) (size source pool n : ℕ) → eventNumber m size source pool n ≡ 0 → size + gain n ≤ maxPoolLength
+unfolding eventNumber eventState full
+event-room m size source pool n e =
+    let p = both-passed (eventInput source pool n) (refuse m 21 (refuse (ltb maxPoolLength (size + gain n)) 22 0)) e in
+    let q = passed m 21 (refuse (ltb maxPoolLength (size + gain n)) 22 0) (omega arith) (p .1) in
+    ltb-false maxPoolLength (size + gain n) (passed (ltb maxPoolLength (size + gain n)) 22 0 (omega arith) (q .1) .0)
+
+-- the size of a pool counts only where there is such a pool
+pub event-size : (m : Bool) (size size′ source pool n : ℕ) → (pool < poolCount → size ≡ size′) → eventNumber m size source pool n ≡ eventNumber m size′ source pool n
+unfolding eventNumber
+event-size m size size′ source pool n h =
+    then-cong (eventInput source pool n) (eventState m size n) (eventState m size′ n) (λ e. rw (h (input-passed source pool n e .place)))

@@ -1,0 +1,53 @@
+-- An event, where the code reads pool i modulo 32: with no such pool the answer does not depend on what it reads.
+-- Assumes nothing.
+use mathlib.Core.Path.{_≡_, refl, sym, ap, _∙_}
+use mathlib.Core.Bool.{Bool, true}
+use mathlib.Core.List.{List, []}
+use Prim.Native.Nat.{ℕ, _+_, _%_, _≤_, _<_}
+use native.Mathlib.Nat.{mod-eq-of-lt}
+use lib.Dec.{eqb}
+use lib.ListN.{length, set}
+use borrow.Author.Tests.{eqb-true}
+use Rattle.hash.specs.Hasher.{absorb}
+use Rattle.hash.specs.Double.{maxPoolLength}
+use Rattle.hash.specs.declared.hasher.Hasher.{Hasher}
+use Rattle.pools.specs.Events.{maxSource, poolCount, maxData, eventBytes, gain}
+use Rattle.pools.specs.State.{poolAt, malformed}
+use Rattle.pools.specs.Refusals.{eventNumber}
+use Rattle.pools.specs.Effects.{withPool, addEvent}
+use Rattle.pools.specs.Calls.{event, callNumber, callEffect}
+use Rattle.pools.specs.declared.Fortuna.{Fortuna}
+use Rattle.pools.proofs.Acceptance.{EventPassed, event-passed, event-room, event-size}
+
+in-range : (pool : ℕ) → pool < poolCount → pool % 32 ≡ pool
+unfolding poolCount
+in-range pool h = mod-eq-of-lt h
+
+-- k is the number that the code came to
+module _ (s : Fortuna) (source pool : ℕ) (d : List ℕ) (m : Bool) (k : ℕ) (formed : m ≡ malformed s)
+    (numbered : k ≡ eventNumber m (poolAt s (pool % 32) .length) source pool (length d)) where
+  same-size : pool < poolCount → poolAt s (pool % 32) .length ≡ poolAt s pool .length
+  same-size h = ap (λ (i : ℕ). poolAt s i .length) (in-range pool h)
+
+  pub event-number : k ≡ callNumber s (event source pool d)
+  unfolding callNumber
+  event-number = numbered ∙ event-size m _ _ source pool (length d) same-size ∙ rw formed
+
+  module _ (accepted : eqb k 0 ≡ true) where
+    none : eventNumber m (poolAt s (pool % 32) .length) source pool (length d) ≡ 0
+    none = sym numbered ∙ eqb-true k 0 accepted
+
+    passed : EventPassed source pool (length d)
+    passed = event-passed m _ source pool (length d) none
+
+    pub event-asks : (source ≤ maxSource) × (length d ≤ maxData) × (poolAt s (pool % 32) .length + gain (length d) ≤ maxPoolLength)
+    event-asks = (passed .byte, passed .short, event-room m _ source pool (length d) none)
+
+    pub event-effect : (q : Hasher) → q ≡ absorb (poolAt s (pool % 32)) (eventBytes source d)
+        → (0 ≡ callEffect s (event source pool d) .emptied)
+        × (_≡_ {A = Fortuna}
+        (record { generator = s .generator; pools = set (s .pools) (pool % 32) q; «last_reseed» = s .«last_reseed»; «reseed_count» = s .«reseed_count»; reseeded = s .reseeded })
+        (callEffect s (event source pool d) .next))
+        × ([] ≡ callEffect s (event source pool d) .buffer)
+    unfolding callEffect addEvent withPool
+    event-effect q e = (refl, rw (e, in-range pool (passed .place)), refl)

@@ -1,0 +1,15 @@
+pub mod Bits
+pub mod Checks
+pub mod Room
+pub mod Acceptance
+pub mod Gains
+pub mod EventCalls
+pub mod Clock
+pub mod Prefix
+pub mod PoolTests
+pub mod Collecting
+pub mod Reseeding
+pub mod Serving
+pub mod Servables
+pub mod Outcomes
+pub mod Numbers

@@ -1,0 +1,72 @@
+-- From what a method comes to, to the outcome of its call.
+-- Assumes nothing.
+use mathlib.Core.Path.{_≡_, ap, _∙_}
+use mathlib.Core.Bool.{Bool, true, false}
+use mathlib.Core.List.{List}
+use Prim.Native.Nat.{ℕ}
+use lib.Dec.{eqb}
+use lib.ListN.{length}
+use Rattle.laws.proofs.Refusals.{accepted}
+use Rattle.generator.specs.Steps.{decode}
+use Rattle.pools.specs.State.{counterOf, malformed, due}
+use Rattle.pools.specs.Refusals.{requestNumber, writeNumber, updateNumber}
+use Rattle.pools.specs.Effects.{Effect}
+use Rattle.pools.specs.Calls.{Call, request, update, write, inputBuffer, callNumber, callEffect, unchanged, outcome, step}
+use Rattle.pools.specs.declared.Fortuna.{Fortuna}
+
+-- ---- k is the number that the code came to, d its test for a call that is done
+
+module _ (s : Fortuna) (call : Call) (k : ℕ) (d : Bool) (numbered : k ≡ callNumber s call) (tested : d ≡ eqb k 0) where
+  pub number-is : k ≡ step s call .number
+  unfolding step outcome
+  number-is = numbered
+
+  pub is-accepted : d ≡ true → callNumber s call ≡ 0
+  is-accepted t = accepted (callNumber s call) k d numbered tested t
+
+  pub done : d ≡ true → callEffect s call ≡ step s call .effect
+  unfolding step outcome
+  done t = rw (← numbered, ← tested, t)
+
+  pub kept : d ≡ false → unchanged (inputBuffer call) s ≡ step s call .effect
+  unfolding step outcome
+  kept t = rw (← numbered, ← tested, t)
+
+  -- a call with a lent buffer: done, with the emptied pools, the next state and the bytes that the effect has
+  pub gives-done : (emptied : ℕ) (next : Fortuna) (bytes : List ℕ) → d ≡ true
+      → (emptied ≡ callEffect s call .emptied) × (next ≡ callEffect s call .next) × (bytes ≡ callEffect s call .buffer)
+      → ((k ≡ step s call .number) × (emptied ≡ step s call .effect .emptied) × (next ≡ step s call .effect .next))
+      × (bytes ≡ step s call .effect .buffer)
+  gives-done emptied next bytes t (e, f, g) = (
+    (
+      number-is,
+      e ∙ ap (λ (x : Effect Fortuna). x .emptied) (done t),
+      f ∙ ap (λ (x : Effect Fortuna). x .next) (done t),
+    ),
+    g ∙ ap (λ (x : Effect Fortuna). x .buffer) (done t),
+  )
+
+  -- and refused: none, the same state and the same bytes
+  pub gives-kept : d ≡ false
+      → ((k ≡ step s call .number) × (0 ≡ step s call .effect .emptied) × (s ≡ step s call .effect .next))
+      × (inputBuffer call ≡ step s call .effect .buffer)
+  unfolding unchanged
+  gives-kept t = (
+    (number-is, ap (λ (x : Effect Fortuna). x .emptied) (kept t), ap (λ (x : Effect Fortuna). x .next) (kept t)),
+    ap (λ (x : Effect Fortuna). x .buffer) (kept t),
+  )
+
+-- ---- the number of each call, from the tests that the code made
+
+module _ (s : Fortuna) (clock : ℕ) (m d : Bool) (k : ℕ) (formed : m ≡ malformed s) (timed : d ≡ due s clock) where
+  pub request-number : (out : List ℕ) → k ≡ requestNumber m (decode (s .generator) .count) d (length out) → k ≡ callNumber s (request clock out)
+  unfolding callNumber counterOf
+  request-number out e = rw (← formed, ← timed) e
+
+  pub write-number : (seed : List ℕ) → k ≡ writeNumber m (decode (s .generator) .count) d seed → k ≡ callNumber s (write clock seed)
+  unfolding callNumber counterOf
+  write-number seed e = rw (← formed, ← timed) e
+
+  pub update-number : (seed : List ℕ) → k ≡ updateNumber m (decode (s .generator) .count) d seed → k ≡ callNumber s (update clock seed)
+  unfolding callNumber counterOf
+  update-number seed e = rw (← formed, ← timed) e

@@ -1,0 +1,35 @@
+-- What the methods promise: 01's numbers of the answers, and a call's outcome as the caller sees it.
+-- Assumes nothing.
+use mathlib.Core.Path.{_≡_}
+use mathlib.Core.List.{List}
+use Prim.Native.Nat.{ℕ}
+use Rattle.pools.specs.Calls as Calls
+use Rattle.pools.specs.declared.Fortuna.{Fortuna}
+use Rattle.pools.specs.declared.Outcome.{Outcome}
+use Rattle.pools.specs.declared.answer.Answer.{Answer}
+use Rattle.pools.specs.declared.answer.Answer.the-variants.{Done, SourceOutOfRange, PoolOutOfRange, DataLength, RequestTooLong, SeedSize, Malformed, PoolFull, Unseeded, CounterSpent}
+
+-- 01's number of an answer, 0 where the call was done
+unfoldable pub number : Answer → ℕ
+number Done = 0
+number SourceOutOfRange = 11
+number PoolOutOfRange = 12
+number DataLength = 13
+number RequestTooLong = 14
+number SeedSize = 15
+number Malformed = 21
+number PoolFull = 22
+number Unseeded = 23
+number CounterSpent = 24
+
+-- different answers have different numbers
+abbrev pub NumberInjective : Type 0
+NumberInjective = (a b : Answer) → number a ≡ number b → a ≡ b
+
+-- what a method returns is the outcome: its number, the pools emptied, and the next state
+abbrev pub Gives : Calls.Outcome Fortuna → Outcome → Type 0
+Gives o r = (number (r .answer) ≡ o .number) × (r .emptied ≡ o .effect .emptied) × (r .next ≡ o .effect .next)
+
+-- and the lent buffer holds what it says
+abbrev pub GivesBytes : Calls.Outcome Fortuna → Outcome → List ℕ → Type 0
+GivesBytes o r out = Gives o r × (out ≡ o .effect .buffer)

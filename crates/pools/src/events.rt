@@ -1,0 +1,28 @@
+// What an event puts into its pool.
+use hash::Hasher;
+use laws::overwrite;
+ghost use mathlib.Core.Path.{_≡_};
+ghost use Prim.Native.Nat.{_+_, _≤_};
+ghost use lib.ListN.{length};
+ghost use Rattle.hash.specs.Double.{maxPoolLength};
+ghost use Rattle.hash.specs.Hasher.{absorb};
+ghost use Rattle.pools.specs.Events.{maxSource, maxData, eventBytes, gain};
+
+// The bytes before the data: source and length.
+pub(crate) const HEADER: usize = 2;
+
+pub(crate) const MAX_DATA: usize = 32;
+
+// The pool after an event: header and data in one part.
+pub(crate) fn gained(pool: Hasher, source: u32, data: &[u8]) -> Hasher
+    requires { ⌜ (source ≤ maxSource) × (length (now «data») ≤ maxData) × (pool .length + gain (length (now «data»)) ≤ maxPoolLength) ⌝ }
+    ensures { λ r. ⌜ r ≡ absorb pool (eventBytes source (now («data» .entry))) ⌝ }
+{
+    let mut bytes = [0u8; HEADER + MAX_DATA];
+    let n = data.len();
+    bytes[0] = source as u8;
+    bytes[1] = n as u8;
+    overwrite(&mut bytes[HEADER..], data);
+    let absorbed = pool.absorb(&bytes[..HEADER + n]);
+    absorbed.next
+}

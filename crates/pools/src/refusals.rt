@@ -1,0 +1,136 @@
+// The answer of each call, from plain values. Input numbers come before state numbers, within each list the lower first.
+use crate::answer::Answer;
+use crate::events::HEADER;
+use crate::events::MAX_DATA;
+use generator::Generator;
+use generator::block_count;
+use generator::max_request;
+ghost use mathlib.Core.Path.{_≡_};
+ghost use mathlib.Core.Bool.{cond};
+ghost use Prim.Native.Nat.{_+_, _≤_};
+ghost use Rattle.generator.specs.Steps.{decode};
+ghost use Rattle.pools.specs.Pool.{full};
+ghost use Rattle.pools.specs.Refusals.{unseeded, spent, eventNumber, outputState, requestNumber, writeNumber, updateNumber};
+ghost use Rattle.pools.specs.Promises.{number};
+
+const MAX_SOURCE: u32 = 255;
+
+const LAST_POOL: u32 = 31;
+
+// The bytes of a seed.
+pub(crate) const SEED_SIZE: usize = 64;
+
+// Whether a pool of `size` bytes has no room for n more. The sum itself might not fit.
+fn is_full(size: u64, n: u64) -> bool
+    ensures { λ r. ⌜ r ≡ full size n ⌝ }
+{
+    let most = hash::max_pool_length();
+    if n > most {
+        return true;
+    }
+    size > most - n
+}
+
+// The answer to an event of n bytes of data, where its pool holds `size` bytes.
+pub(crate) fn event_answer(malformed: bool, size: u64, source: u32, pool: u32, n: usize) -> Answer
+    ensures { λ r. ⌜ number r ≡ eventNumber malformed size source pool n ⌝ }
+{
+    if source > MAX_SOURCE {
+        return Answer::SourceOutOfRange;
+    }
+    if pool > LAST_POOL {
+        return Answer::PoolOutOfRange;
+    }
+    if n == 0 {
+        return Answer::DataLength;
+    }
+    if n > MAX_DATA {
+        return Answer::DataLength;
+    }
+    if malformed {
+        return Answer::Malformed;
+    }
+    if is_full(size, (HEADER + n) as u64) {
+        return Answer::PoolFull;
+    }
+    Answer::Done
+}
+
+// Whether there is no key: the counter is 0, and no pool reseed is due.
+fn is_unseeded(generator: Generator, due: bool) -> bool
+    ensures { λ r. ⌜ r ≡ unseeded (decode generator .count) due ⌝ }
+{
+    if due {
+        return false;
+    }
+    generator.is_unseeded()
+}
+
+// What the counter grows by in b blocks, with the pool reseed before them where it is due.
+fn growth(due: bool, b: u32) -> u32
+    requires { ⌜ b ≤ 65538 ⌝ }
+    ensures { λ r. ⌜ r ≡ cond due 1 0 + b ⌝ }
+{
+    if due { 1 + b } else { b }
+}
+
+// Whether the counter cannot grow by that much.
+fn is_spent(generator: Generator, due: bool, b: u32) -> bool
+    requires { ⌜ b ≤ 65538 ⌝ }
+    ensures { λ r. ⌜ r ≡ spent (decode generator .count) due b ⌝ }
+{
+    generator.is_spent(growth(due, b))
+}
+
+// The answer where b blocks are to be made.
+fn output_answer(malformed: bool, generator: Generator, due: bool, b: u32) -> Answer
+    requires { ⌜ b ≤ 65538 ⌝ }
+    ensures { λ r. ⌜ number r ≡ outputState malformed (decode generator .count) due b ⌝ }
+{
+    if malformed {
+        return Answer::Malformed;
+    }
+    if is_unseeded(generator, due) {
+        return Answer::Unseeded;
+    }
+    if is_spent(generator, due, b) {
+        return Answer::CounterSpent;
+    }
+    Answer::Done
+}
+
+// The answer to a request of n bytes.
+pub(crate) fn request_answer(malformed: bool, generator: Generator, due: bool, n: usize) -> Answer
+    ensures { λ r. ⌜ number r ≡ requestNumber malformed (decode generator .count) due n ⌝ }
+{
+    if n > max_request() {
+        return Answer::RequestTooLong;
+    }
+    output_answer(malformed, generator, due, block_count(n) as u32 + 2)
+}
+
+// The answer to a seed write on the lent bytes.
+pub(crate) fn write_answer(malformed: bool, generator: Generator, due: bool, seed: &[u8]) -> Answer
+    ensures { λ r. ⌜ number r ≡ writeNumber malformed (decode generator .count) due (now (seed .entry)) ⌝ }
+{
+    if seed.len() != SEED_SIZE {
+        return Answer::SeedSize;
+    }
+    output_answer(malformed, generator, due, block_count(SEED_SIZE) as u32 + 2)
+}
+
+// The answer to a seed update on the lent bytes.
+pub(crate) fn update_answer(malformed: bool, generator: Generator, due: bool, seed: &[u8]) -> Answer
+    ensures { λ r. ⌜ number r ≡ updateNumber malformed (decode generator .count) due (now (seed .entry)) ⌝ }
+{
+    if seed.len() != SEED_SIZE {
+        return Answer::SeedSize;
+    }
+    if malformed {
+        return Answer::Malformed;
+    }
+    if is_spent(generator, due, 7) {
+        return Answer::CounterSpent;
+    }
+    Answer::Done
+}
