@@ -1,16 +1,10 @@
 /* WORK COUNT: does COUNT units of WORK with the library linked in, and prints the seconds and the bytes it ended with.
    sha256: one message of COUNT MiB; aes256: COUNT blocks; expand: COUNT key expansions. */
+#include "timing.h"
 #include "work.h"
 #include <stdio.h>
 #include <stdlib.h>
 #include <string.h>
-#include <time.h>
-
-static double now(void) {
-    struct timespec t;
-    clock_gettime(CLOCK_MONOTONIC, &t);
-    return t.tv_sec + t.tv_nsec / 1e9;
-}
 
 static double hash(size_t length, uint8_t result[32]) {
     uint8_t *data = malloc(length);

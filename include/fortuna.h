@@ -1,14 +1,16 @@
-/* SHA-256, D, AES-256 and the Fortuna generator of the static library fortuna_c.
+/* Fortuna with its pools, timer and seeds, the generator alone, SHA-256, D and AES-256: the static library fortuna_c.
 
    The caller sees to it that a pointer points to as many bytes as its length says and is not null, not even
    at length 0, and that a buffer overlaps nothing else that the same call is lent. Then every call returns,
    and none allocates, keeps a pointer, or reads or changes anything but what it is lent.
 
-   Numbers returned: FORTUNA_DONE, or the number of a refusal. After a refusal the buffers are as before, and so is
-   the state that comes back. */
+   Numbers returned: FORTUNA_DONE, or the number of a refusal, the first in the order of the list below where more than
+   one applies. After a refusal the buffers are as before, and so is the state that comes back; pools emptied are 0.
+   No call is refused for another reason. */
 #ifndef FORTUNA_H
 #define FORTUNA_H
 
+#include <stdbool.h>
 #include <stddef.h>
 #include <stdint.h>
 
@@ -18,13 +20,29 @@ extern "C" {
 
 enum {
     FORTUNA_DONE = 0,
-    /* a buffer for blocks or a request above 1,048,576 bytes */
+    /* an event: source above 255 */
+    FORTUNA_BAD_SOURCE = 11,
+    /* an event: pool above 31 */
+    FORTUNA_BAD_POOL = 12,
+    /* an event: no data, or more than 32 bytes */
+    FORTUNA_BAD_DATA = 13,
+    /* a request, or a buffer for the generator's blocks, above 1,048,576 bytes */
     FORTUNA_REQUEST_TOO_LONG = 14,
-    /* a message above 2^61 - 1 bytes, or a seed above 2^61 - 33 bytes */
+    /* a seed update or a seed write: a seed buffer that is not exactly 64 bytes */
+    FORTUNA_BAD_SEED = 15,
+    /* a line of a log that is no frame; no function returns it, it stands in fortuna_log's answers */
+    FORTUNA_NO_FRAME = 16,
+    /* a message above 2^61 - 1 bytes, or a seed for the generator alone above 2^61 - 33 bytes */
     FORTUNA_TOO_LONG = 17,
-    /* a generator with counter 0 and a key that is not all zero */
+    /* a malformed state, which no run of calls leaves: a pool length above 2^61 - 1; a byte after a pool's tail that is
+       not 0; a pool below 64 bytes whose chain is not SHA-256's initial value; counter 0 with a key that is not all
+       zero; counter 0 with reseeded set; reseeded clear with a last_reseed or a reseed_count that is not 0. For the
+       generator alone: counter 0 with a key that is not all zero */
     FORTUNA_MALFORMED = 21,
-    /* blocks or a request with counter 0 */
+    /* an event: its pool's length with the 2 bytes of header and the data would pass 2^61 - 1 */
+    FORTUNA_POOL_FULL = 22,
+    /* a request or a seed write with counter 0 and no pool reseed due. For the generator alone: blocks or a request
+       with counter 0 */
     FORTUNA_UNSEEDED = 23,
     /* a counter that would grow above 2^128 - 1 */
     FORTUNA_COUNTER_SPENT = 24
@@ -98,6 +116,104 @@ static inline uint32_t fortuna_generator_request_at(fortuna_generator *g, uint8_
 {
     fortuna_generator_outcome o = fortuna_generator_request(*g, out, length);
     *g = o.next;
+    return o.number;
+}
+
+/* ---- Fortuna: the generator, 32 pools, the timer of their reseeds, and seeds (Fortuna, 9.5 and 9.6) */
+
+/* A pool: the running hash over its whole blocks, the bytes after them with zeros behind, and the count of all its
+   bytes, headers too. Empty: SHA-256's initial value, zeros, 0. */
+typedef struct {
+    uint32_t chain[8];
+    uint8_t tail[64];
+    uint64_t length;
+} fortuna_pool;
+
+/* The state. last_reseed is the clock at the last pool reseed, reseed_count their number modulo 2^32, and reseeded
+   whether one was made. Any values may stand in it, save that a bool's byte is 0 or 1: read a state that was stored
+   field by field, and copy no stray bytes over it. */
+typedef struct {
+    fortuna_generator generator;
+    fortuna_pool pools[32];
+    uint32_t last_reseed;
+    uint32_t reseed_count;
+    bool reseeded;
+} fortuna_state;
+
+/* The number, how many pools were emptied, 0 without a pool reseed, and the state that follows. After FORTUNA_DONE only
+   the latter is to be used: the state that was passed would give the same bytes again. */
+typedef struct {
+    uint32_t number;
+    uint32_t emptied;
+    fortuna_state next;
+} fortuna_outcome;
+
+/* The state before anything: unseeded, with empty pools. */
+fortuna_state fortuna_new(void);
+
+/* The pool gains the source's byte, the length's byte and the length bytes at data. No pool is emptied.
+   FORTUNA_DONE, FORTUNA_BAD_SOURCE, FORTUNA_BAD_POOL, FORTUNA_BAD_DATA, FORTUNA_MALFORMED or FORTUNA_POOL_FULL. */
+fortuna_outcome fortuna_event(fortuna_state state, uint32_t source, uint32_t pool, const uint8_t *data, size_t length);
+
+/* Fills the length bytes at out. clock counts milliseconds and may wrap. A pool reseed is made first if one is due:
+   pool 0 holds 64 bytes or more, and none was ever made or clock - last_reseed, modulo 2^32, is more than 100.
+   FORTUNA_DONE, FORTUNA_REQUEST_TOO_LONG, FORTUNA_MALFORMED, FORTUNA_UNSEEDED or FORTUNA_COUNTER_SPENT. */
+fortuna_outcome fortuna_request(fortuna_state state, uint32_t clock, uint8_t *out, size_t length);
+
+/* The 64 bytes at seed reseed the generator; then a request for 64 bytes overwrites them with the seed of the next
+   start. Store that before any byte is drawn: after a power loss the old seed would give the same bytes again.
+   FORTUNA_DONE, FORTUNA_BAD_SEED, FORTUNA_MALFORMED or FORTUNA_COUNTER_SPENT. */
+fortuna_outcome fortuna_update(fortuna_state state, uint32_t clock, uint8_t *seed, size_t length);
+
+/* A request for 64 bytes overwrites the 64 bytes at seed, for the next start.
+   FORTUNA_DONE, FORTUNA_BAD_SEED, FORTUNA_MALFORMED, FORTUNA_UNSEEDED or FORTUNA_COUNTER_SPENT. */
+fortuna_outcome fortuna_write(fortuna_state state, uint32_t clock, uint8_t *seed, size_t length);
+
+/* Runs a log of calls from the state before anything. The log is length characters, a frame to a line, in capital
+   hexadecimal, at most 256 characters: 01 and source, pool, data for an event; 02 and clock, n for a request of n
+   bytes; 03 and clock, seed for a seed update; 04 and clock for a seed write. clock has 4 bytes and n has 2, most
+   significant first. The answers go to out, a line for each line: two decimal digits, 00 or the number of the refusal;
+   after 00 for 02, 03 and 04 a space and the pools emptied in two decimal digits, then, unless n = 0, a space and the
+   bytes in capital hexadecimal. Stores as many characters as there is room for, and returns how many. */
+size_t fortuna_log(const uint8_t *log, size_t length, uint8_t *out, size_t room);
+
+/* The same on a state that the caller keeps at f, which no buffer may overlap. How many pools were emptied is stored at
+   emptied, unless that is NULL; an event empties none. */
+static inline uint32_t fortuna_event_at(
+    fortuna_state *f, uint32_t source, uint32_t pool, const uint8_t *data, size_t length)
+{
+    fortuna_outcome o = fortuna_event(*f, source, pool, data, length);
+    *f = o.next;
+    return o.number;
+}
+
+static inline uint32_t fortuna_request_at(
+    fortuna_state *f, uint32_t clock, uint8_t *out, size_t length, uint32_t *emptied)
+{
+    fortuna_outcome o = fortuna_request(*f, clock, out, length);
+    *f = o.next;
+    if (emptied)
+        *emptied = o.emptied;
+    return o.number;
+}
+
+static inline uint32_t fortuna_update_at(
+    fortuna_state *f, uint32_t clock, uint8_t *seed, size_t length, uint32_t *emptied)
+{
+    fortuna_outcome o = fortuna_update(*f, clock, seed, length);
+    *f = o.next;
+    if (emptied)
+        *emptied = o.emptied;
+    return o.number;
+}
+
+static inline uint32_t fortuna_write_at(
+    fortuna_state *f, uint32_t clock, uint8_t *seed, size_t length, uint32_t *emptied)
+{
+    fortuna_outcome o = fortuna_write(*f, clock, seed, length);
+    *f = o.next;
+    if (emptied)
+        *emptied = o.emptied;
     return o.number;
 }
 

@@ -2,6 +2,8 @@
 
 `encrypt` is the standard's text, a block at a time. `encrypt_blocks` gives the same for many blocks under one key
 and is some hundred times as fast."""
+import operator
+from functools import lru_cache
 
 
 def xtime(b):
@@ -29,7 +31,7 @@ S_BOX = bytes(sub_byte(b) for b in range(256))
 
 
 def xor(a, b):
-    return bytes(x ^ y for x, y in zip(a, b))
+    return bytes(map(operator.xor, a, b))
 
 
 def expand_key(key):
@@ -48,16 +50,18 @@ def expand_key(key):
     return words
 
 
+@lru_cache(maxsize=4)
 def round_keys(key):
     words = expand_key(key)
     return [b"".join(words[i : i + 4]) for i in range(0, 60, 4)]
 
 
+DOUBLE = bytes(product(2, b) for b in range(256))
+TRIPLE = bytes(product(3, b) for b in range(256))
+
+
 def mix_column(c):
-    return bytes(
-        product(2, c[r]) ^ product(3, c[(r + 1) % 4]) ^ c[(r + 2) % 4] ^ c[(r + 3) % 4]
-        for r in range(4)
-    )
+    return bytes(DOUBLE[c[r]] ^ TRIPLE[c[(r + 1) % 4]] ^ c[(r + 2) % 4] ^ c[(r + 3) % 4] for r in range(4))
 
 
 def encrypt(key, block):
@@ -75,7 +79,7 @@ def encrypt(key, block):
 
 # ---- many blocks at once: byte i of every block stands in plane i, and a step works on whole planes
 
-DOUBLE = bytes(product(2, b) for b in range(256))
+FEW = 4  # up to here `encrypt` is as fast
 
 
 def number(plane):
@@ -95,8 +99,8 @@ def mix_planes(planes):
 def encrypt_blocks(key, blocks):
     """The joined blocks, enciphered and joined; the first and the last are held to `encrypt`."""
     count = len(blocks) // 16
-    if count == 0:
-        return b""
+    if count <= FEW:
+        return b"".join(encrypt(key, blocks[i : i + 16]) for i in range(0, len(blocks), 16))
     ones = number(b"\x01" * count)
     keys = round_keys(key)
     planes = [number(blocks[i::16]) ^ keys[0][i] * ones for i in range(16)]

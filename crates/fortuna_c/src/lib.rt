@@ -2,11 +2,11 @@
 mod aes256;
 mod fortuna_generator;
 mod sha256;
+mod station;
 
 pub use aes256::Aes256Key;
 pub use aes256::fortuna_aes256_block;
 pub use aes256::fortuna_aes256_expand;
-pub use fortuna_generator::FortunaGenerator;
 pub use fortuna_generator::FortunaGeneratorOutcome;
 pub use fortuna_generator::fortuna_generator_blocks;
 pub use fortuna_generator::fortuna_generator_new;
@@ -14,3 +14,9 @@ pub use fortuna_generator::fortuna_generator_request;
 pub use fortuna_generator::fortuna_generator_reseed;
 pub use sha256::fortuna_double_sha256;
 pub use sha256::fortuna_sha256;
+pub use station::FortunaOutcome;
+pub use station::fortuna_event;
+pub use station::fortuna_new;
+pub use station::fortuna_request;
+pub use station::fortuna_update;
+pub use station::fortuna_write;

@@ -1,17 +1,16 @@
 -- `fortuna_c::fortuna_generator::fortuna_generator_blocks` meets its contract.
 -- Assumes nothing.
 use borrow.Author.Needs.{needs}
-use Rattle.fortuna_c.proofs.fortuna_generator.fortuna_generator_blocks.Statement.{statement}
+use Rattle.fortuna_c.proofs.fortuna_generator.fortuna_generator_blocks.Statement.{
+  statement,
+}
 use Rattle.fortuna_c.proofs.fortuna_generator.fortuna_generator_blocks.Tie as tie
-
-import-requires : tie.Need-import-requires
-import-requires c κs = search needs
 
 generate-blocks-requires : tie.Need-generate-blocks-requires
 generate-blocks-requires c κs = search needs
 
-export-outcome-requires : tie.Need-export-outcome-requires
-export-outcome-requires c κs = search needs
+exported-requires : tie.Need-exported-requires
+exported-requires c κs = search needs
 
 same-length : tie.Need-same-length
 same-length c = search needs
@@ -21,5 +20,4 @@ returns c = (cc, cc, cc)
 
 pub fortuna-generator-blocks-spec : {M : Type 1} → statement M
 fortuna-generator-blocks-spec =
-    tie.close
-    (tie.spec import-requires generate-blocks-requires export-outcome-requires same-length returns)
+    tie.close (tie.spec generate-blocks-requires exported-requires same-length returns)

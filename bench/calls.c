@@ -1,0 +1,65 @@
+/* WORK COUNT: makes COUNT calls of the kind WORK with the implementation linked in, and prints the seconds and the
+   bytes it ended with. event: 32 bytes, the 32 pools in turn; request: 16 bytes; large: a request of 1 MiB; update: a
+   seed. Before, every pool has had two events, a reseed has used pool 0, and every pool has had a third event. */
+#include "calls.h"
+#include "timing.h"
+#include <stdio.h>
+#include <stdlib.h>
+#include <string.h>
+
+enum { POOLS = 32, LARGE = 1048576 };
+
+static void made(bool call) {
+    if (call) return;
+    fprintf(stderr, "calls: a call was not made\n");
+    exit(1);
+}
+
+/* Events from number first on, each with other bytes. */
+static void events(size_t first, size_t count) {
+    uint8_t data[32];
+    memset(data, 0x5a, sizeof data);
+    for (size_t i = first; i < first + count; i++) {
+        memcpy(data, &i, sizeof i);
+        made(call_event(i % POOLS, data));
+    }
+}
+
+static void requests(size_t count, uint8_t *out, size_t length) {
+    for (size_t i = 0; i < count; i++) made(call_request(out, length));
+}
+
+static void updates(size_t count, uint8_t seed[64]) {
+    for (size_t i = 0; i < count; i++) made(call_update(seed));
+}
+
+static void prepare(void) {
+    made(call_new());
+    events(0, 2 * POOLS);
+    made(call_reseed());
+    events(2 * POOLS, POOLS);
+}
+
+/* Returns the seconds. */
+static double perform(const char *work, size_t count, uint8_t buffer[LARGE]) {
+    double start = now();
+    if (strcmp(work, "event") == 0) events(3 * POOLS, count);
+    else if (strcmp(work, "request") == 0) requests(count, buffer, 16);
+    else if (strcmp(work, "large") == 0) requests(count, buffer, LARGE);
+    else updates(count, buffer);
+    return now() - start;
+}
+
+int main(int argc, char **argv) {
+    static uint8_t buffer[LARGE];
+    uint32_t sum[8] = {0};
+    if (argc != 3) return 2;
+    prepare();
+    double seconds = perform(argv[1], strtoul(argv[2], NULL, 10), buffer);
+    pool_sum(sum);
+    printf("%.6f ", seconds);
+    for (int i = 0; i < 8; i++) printf("%08x", sum[i]);
+    for (int i = 0; i < 32; i++) printf("%02x", buffer[i]);
+    printf("\n");
+    return 0;
+}

@@ -1,0 +1,235 @@
+#include "plain_fortuna.h"
+#include <string.h>
+#include <tomcrypt.h>
+
+static const uint64_t max_pool_length = (UINT64_C(1) << 61) - 1;
+static const size_t max_request = 1048576;
+static const uint8_t zeros[64];
+static const uint32_t initial_chain[8] = {
+    0x6a09e667, 0xbb67ae85, 0x3c6ef372, 0xa54ff53a, 0x510e527f, 0x9b05688c, 0x1f83d9ab, 0x5be0cd19,
+};
+
+/* ---- pools */
+
+static void empty(plain_pool *p)
+{
+    memcpy(p->chain, initial_chain, sizeof p->chain);
+    memset(p->tail, 0, sizeof p->tail);
+    p->length = 0;
+}
+
+/* libtomcrypt has no call for one block of SHA-256, so a running hash with no bytes waiting is given one. */
+static void compress(uint32_t chain[8], const uint8_t block[64])
+{
+    hash_state h;
+    memcpy(h.sha256.state, chain, sizeof h.sha256.state);
+    h.sha256.length = 0;
+    h.sha256.curlen = 0;
+    sha256_process(&h, block, 64);
+    memcpy(chain, h.sha256.state, sizeof h.sha256.state);
+}
+
+/* The pool gains at most 64 bytes, so at most one block fills. */
+static void append(plain_pool *p, const uint8_t *bytes, size_t length)
+{
+    size_t used = p->length % 64;
+    size_t room = 64 - used;
+    p->length += length;
+    if (length < room) {
+        memcpy(p->tail + used, bytes, length);
+        return;
+    }
+    memcpy(p->tail + used, bytes, room);
+    compress(p->chain, p->tail);
+    memset(p->tail, 0, sizeof p->tail);
+    memcpy(p->tail, bytes + room, length - room);
+}
+
+/* SHA-256 of the 32 bytes at digest, in their place. */
+static void hash_again(uint8_t digest[32])
+{
+    hash_state h;
+    sha256_init(&h);
+    sha256_process(&h, digest, 32);
+    sha256_done(&h, digest);
+}
+
+/* D of all that the pool gained. libtomcrypt's length has the bits of the whole blocks only. */
+static void pool_digest(const plain_pool *p, uint8_t digest[32])
+{
+    hash_state h;
+    memcpy(h.sha256.state, p->chain, sizeof h.sha256.state);
+    memcpy(h.sha256.buf, p->tail, sizeof h.sha256.buf);
+    h.sha256.curlen = p->length % 64;
+    h.sha256.length = p->length / 64 * 512;
+    sha256_done(&h, digest);
+    hash_again(digest);
+}
+
+static bool malformed_pool(const plain_pool *p)
+{
+    size_t used = p->length % 64;
+    if (p->length > max_pool_length) return true;
+    if (memcmp(p->tail + used, zeros, 64 - used) != 0) return true;
+    return p->length < 64 && memcmp(p->chain, initial_chain, sizeof p->chain) != 0;
+}
+
+/* ---- the generator */
+
+static void step(uint8_t counter[16])
+{
+    for (int i = 0; i < 16; i++)
+        if (++counter[i] != 0) return;
+}
+
+static uint64_t load(const uint8_t bytes[8])
+{
+    uint64_t n = 0;
+    for (int i = 7; i >= 0; i--) n = n << 8 | bytes[i];
+    return n;
+}
+
+static bool unseeded(const plain_state *s)
+{
+    return memcmp(s->counter, zeros, sizeof s->counter) == 0;
+}
+
+/* The counter would pass 2^128 - 1. */
+static bool spent(const plain_state *s, uint64_t growth)
+{
+    return load(s->counter + 8) == UINT64_MAX && load(s->counter) > UINT64_MAX - growth;
+}
+
+static void reseed(plain_state *s, const uint8_t *seed, size_t length)
+{
+    hash_state h;
+    sha256_init(&h);
+    sha256_process(&h, s->key, sizeof s->key);
+    sha256_process(&h, seed, length);
+    sha256_done(&h, s->key);
+    hash_again(s->key);
+    step(s->counter);
+}
+
+static void block(plain_state *s, symmetric_key *k, uint8_t out[16])
+{
+    aes_enc_ecb_encrypt(s->counter, out, k);
+    step(s->counter);
+}
+
+static uint64_t blocks_for(size_t length)
+{
+    return (length + 15) / 16 + 2;
+}
+
+static void generate(plain_state *s, uint8_t *out, size_t length)
+{
+    symmetric_key k;
+    aes_enc_setup(s->key, sizeof s->key, 0, &k);
+    for (; length >= 16; length -= 16, out += 16) block(s, &k, out);
+    if (length > 0) {
+        uint8_t last[16];
+        block(s, &k, last);
+        memcpy(out, last, length);
+    }
+    block(s, &k, s->key);
+    block(s, &k, s->key + 16);
+}
+
+/* ---- the state */
+
+void plain_new(plain_state *s)
+{
+    memset(s, 0, sizeof *s);
+    for (int i = 0; i < PLAIN_POOLS; i++) empty(&s->pools[i]);
+}
+
+static bool malformed(const plain_state *s)
+{
+    for (int i = 0; i < PLAIN_POOLS; i++)
+        if (malformed_pool(&s->pools[i])) return true;
+    if (unseeded(s) && (s->reseeded || memcmp(s->key, zeros, sizeof s->key) != 0)) return true;
+    return !s->reseeded && (s->last_reseed != 0 || s->reseed_count != 0);
+}
+
+static bool due(const plain_state *s, uint32_t clock)
+{
+    return s->pools[0].length >= 64 && (!s->reseeded || clock - s->last_reseed > 100);
+}
+
+/* Pool i is used if 2^i divides the number, so the used ones are the first. */
+static uint32_t pool_reseed(plain_state *s, uint32_t clock)
+{
+    uint8_t digests[PLAIN_POOLS * 32];
+    uint32_t used = 0;
+    s->reseed_count++;
+    while (used < PLAIN_POOLS && (s->reseed_count & ((UINT32_C(1) << used) - 1)) == 0) {
+        pool_digest(&s->pools[used], digests + 32 * used);
+        empty(&s->pools[used]);
+        used++;
+    }
+    reseed(s, digests, 32 * used);
+    s->last_reseed = clock;
+    s->reseeded = true;
+    return used;
+}
+
+/* 21, 23 or 24 of a request; growth is how many blocks it makes. */
+static uint32_t state_refusal(const plain_state *s, uint32_t clock, uint64_t growth)
+{
+    if (malformed(s)) return 21;
+    if (unseeded(s) && !due(s, clock)) return 23;
+    if (spent(s, due(s, clock) + growth)) return 24;
+    return 0;
+}
+
+static uint32_t random_data(plain_state *s, uint32_t clock, uint8_t *out, size_t length)
+{
+    uint32_t emptied = due(s, clock) ? pool_reseed(s, clock) : 0;
+    generate(s, out, length);
+    return emptied;
+}
+
+/* ---- the calls */
+
+uint32_t plain_event(plain_state *s, uint32_t source, uint32_t pool, const uint8_t *data, size_t length)
+{
+    if (source > 255) return 11;
+    if (pool >= PLAIN_POOLS) return 12;
+    if (length == 0 || length > 32) return 13;
+    if (malformed(s)) return 21;
+    if (s->pools[pool].length + 2 + length > max_pool_length) return 22;
+    uint8_t bytes[34] = {(uint8_t)source, (uint8_t)length};
+    memcpy(bytes + 2, data, length);
+    append(&s->pools[pool], bytes, 2 + length);
+    return 0;
+}
+
+uint32_t plain_request(plain_state *s, uint32_t clock, uint8_t *out, size_t length, uint32_t *emptied)
+{
+    *emptied = 0;
+    if (length > max_request) return 14;
+    uint32_t number = state_refusal(s, clock, blocks_for(length));
+    if (number == 0) *emptied = random_data(s, clock, out, length);
+    return number;
+}
+
+uint32_t plain_update(plain_state *s, uint32_t clock, uint8_t *seed, size_t length, uint32_t *emptied)
+{
+    *emptied = 0;
+    if (length != PLAIN_SEED) return 15;
+    if (malformed(s)) return 21;
+    if (spent(s, due(s, clock) + 1 + blocks_for(length))) return 24;
+    reseed(s, seed, length);
+    *emptied = random_data(s, clock, seed, length);
+    return 0;
+}
+
+uint32_t plain_write(plain_state *s, uint32_t clock, uint8_t *seed, size_t length, uint32_t *emptied)
+{
+    *emptied = 0;
+    if (length != PLAIN_SEED) return 15;
+    uint32_t number = state_refusal(s, clock, blocks_for(length));
+    if (number == 0) *emptied = random_data(s, clock, seed, length);
+    return number;
+}

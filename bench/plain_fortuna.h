@@ -1,0 +1,39 @@
+/* Fortuna with 32 pools, timer and seeds, in plain C over libtomcrypt's SHA-256 and AES-256: the same calls, refusals
+   and check of the whole state as the proved library makes, written the usual way, on a state that the caller keeps. */
+#ifndef PLAIN_FORTUNA_H
+#define PLAIN_FORTUNA_H
+
+#include <stdbool.h>
+#include <stddef.h>
+#include <stdint.h>
+
+enum { PLAIN_POOLS = 32, PLAIN_SEED = 64 };
+
+/* The hash value over the whole blocks so far, the bytes after them with zeros behind, and the count of all bytes. */
+typedef struct {
+    uint32_t chain[8];
+    uint8_t tail[64];
+    uint64_t length;
+} plain_pool;
+
+/* The counter has its least significant byte first. last_reseed is the clock at the last pool reseed, reseed_count
+   their number modulo 2^32, reseeded whether there was one. */
+typedef struct {
+    uint8_t key[32];
+    uint8_t counter[16];
+    plain_pool pools[PLAIN_POOLS];
+    uint32_t last_reseed;
+    uint32_t reseed_count;
+    bool reseeded;
+} plain_state;
+
+void plain_new(plain_state *s);
+
+/* Each returns 0 or a refusal's number (11 to 15, 21 to 24), and stores the count of pools emptied. After a refusal
+   state and buffer are as before, and the count is 0. */
+uint32_t plain_event(plain_state *s, uint32_t source, uint32_t pool, const uint8_t *data, size_t length);
+uint32_t plain_request(plain_state *s, uint32_t clock, uint8_t *out, size_t length, uint32_t *emptied);
+uint32_t plain_update(plain_state *s, uint32_t clock, uint8_t *seed, size_t length, uint32_t *emptied);
+uint32_t plain_write(plain_state *s, uint32_t clock, uint8_t *seed, size_t length, uint32_t *emptied);
+
+#endif

@@ -1,0 +1,116 @@
+/* A digitiser from start to stop: the stored seed goes in and its successor is stored before any key is drawn, noise
+   goes in as events, link keys come out. Noise, clock and flash page are stand-ins, so each run prints the same. */
+#include "fortuna.h"
+
+#include <stdio.h>
+#include <stdlib.h>
+
+enum { SOURCES = 3, TURNS = 64, DATA = 16, POOLS = 32, SEED = 64, KEY = 32 };
+
+/* Stands in for the page of flash memory that keeps the seed. */
+static uint8_t flash[SEED] = "a seed from the workshop, other bytes for each digitiser";
+
+static const char *reason(uint32_t number)
+{
+    switch (number) {
+    case FORTUNA_BAD_SOURCE:
+        return "no such source";
+    case FORTUNA_BAD_POOL:
+        return "no such pool";
+    case FORTUNA_BAD_DATA:
+        return "no data, or more than 32 bytes";
+    case FORTUNA_REQUEST_TOO_LONG:
+        return "more than 1,048,576 bytes asked for";
+    case FORTUNA_BAD_SEED:
+        return "a seed that is not 64 bytes";
+    case FORTUNA_MALFORMED:
+        return "a malformed state";
+    case FORTUNA_POOL_FULL:
+        return "a full pool";
+    case FORTUNA_UNSEEDED:
+        return "no seed and too little noise";
+    case FORTUNA_COUNTER_SPENT:
+        return "the counter is spent";
+    default:
+        return "a number that these calls don't have";
+    }
+}
+
+/* For calls that must be taken: a device would go into its fault state here. */
+static void must(const char *what, uint32_t number)
+{
+    if (number == FORTUNA_DONE)
+        return;
+    printf("%s: refused, %u (%s)\n", what, number, reason(number));
+    exit(1);
+}
+
+static void print_bytes(const uint8_t *bytes, size_t length)
+{
+    for (size_t i = 0; i < length; i++)
+        printf("%02x", bytes[i]);
+    printf("\n");
+}
+
+/* Stands in for samples of a sensor. */
+static void sample(uint32_t source, uint32_t turn, uint8_t data[DATA])
+{
+    for (uint32_t i = 0; i < DATA; i++)
+        data[i] = (uint8_t)(89 * source + 31 * turn + 7 * i);
+}
+
+/* Each source goes round the pools by itself. */
+static void gather_noise(fortuna_state *f)
+{
+    uint8_t data[DATA];
+    for (uint32_t turn = 0; turn < TURNS; turn++)
+        for (uint32_t source = 0; source < SOURCES; source++) {
+            sample(source, turn, data);
+            must("event", fortuna_event_at(f, source, turn % POOLS, data, sizeof data));
+        }
+    printf("%d events taken\n", SOURCES * TURNS);
+}
+
+/* A key, or why there is none: a caller can wait for noise and ask again. */
+static void draw_key(fortuna_state *f, uint32_t clock)
+{
+    uint8_t key[KEY];
+    uint32_t emptied;
+    uint32_t number = fortuna_request_at(f, clock, key, sizeof key, &emptied);
+    if (number != FORTUNA_DONE) {
+        printf("key at %u ms: refused, %u (%s)\n", clock, number, reason(number));
+        return;
+    }
+    printf("key at %u ms, pools emptied %u: ", clock, emptied);
+    print_bytes(key, sizeof key);
+}
+
+/* A pool that there is not: the call says so, and the state stays as it was. */
+static void misplace_event(fortuna_state *f)
+{
+    uint8_t data[DATA];
+    sample(0, 0, data);
+    uint32_t number = fortuna_event_at(f, 0, POOLS, data, sizeof data);
+    if (number != FORTUNA_DONE)
+        printf("event for pool %d: refused, %u (%s)\n", POOLS, number, reason(number));
+}
+
+int main(void)
+{
+    fortuna_state f = fortuna_new();
+
+    draw_key(&f, 0);
+    must("seed update", fortuna_update_at(&f, 10, flash, sizeof flash, NULL));
+    printf("seed updated: ");
+    print_bytes(flash, sizeof flash);
+
+    gather_noise(&f);
+    draw_key(&f, 1000);
+    draw_key(&f, 1050);
+    misplace_event(&f);
+
+    must("seed write", fortuna_write_at(&f, 2000, flash, sizeof flash, NULL));
+    printf("seed for the next start: ");
+    print_bytes(flash, sizeof flash);
+    return 0;
+}

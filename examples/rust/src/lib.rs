@@ -1,0 +1,155 @@
+//! A safe wrapper of the proved Fortuna. include/fortuna.h says what each call does.
+use std::fmt;
+use std::mem::size_of;
+
+/// Why a call was refused, with the number of the header. After a refusal state and buffers are as before.
+#[derive(Clone, Copy, Debug, PartialEq, Eq)]
+pub enum Refusal {
+    BadSource = 11,
+    BadPool = 12,
+    BadData = 13,
+    RequestTooLong = 14,
+    BadSeed = 15,
+    Malformed = 21,
+    PoolFull = 22,
+    Unseeded = 23,
+    CounterSpent = 24,
+}
+
+impl Refusal {
+    fn from_number(number: u32) -> Refusal {
+        match number {
+            11 => Refusal::BadSource,
+            12 => Refusal::BadPool,
+            13 => Refusal::BadData,
+            14 => Refusal::RequestTooLong,
+            15 => Refusal::BadSeed,
+            21 => Refusal::Malformed,
+            22 => Refusal::PoolFull,
+            23 => Refusal::Unseeded,
+            24 => Refusal::CounterSpent,
+            _ => unreachable!("the header has no number {number} for these calls"),
+        }
+    }
+
+    fn reason(self) -> &'static str {
+        match self {
+            Refusal::BadSource => "no such source",
+            Refusal::BadPool => "no such pool",
+            Refusal::BadData => "no data, or more than 32 bytes",
+            Refusal::RequestTooLong => "more than 1,048,576 bytes asked for",
+            Refusal::BadSeed => "a seed that is not 64 bytes",
+            Refusal::Malformed => "a malformed state",
+            Refusal::PoolFull => "a full pool",
+            Refusal::Unseeded => "no seed and too little noise",
+            Refusal::CounterSpent => "the counter is spent",
+        }
+    }
+}
+
+impl fmt::Display for Refusal {
+    fn fmt(&self, f: &mut fmt::Formatter) -> fmt::Result {
+        write!(f, "refused, {} ({})", *self as u32, self.reason())
+    }
+}
+
+impl std::error::Error for Refusal {}
+
+#[repr(C)]
+#[derive(Clone, Copy)]
+struct Generator {
+    key: [u8; 32],
+    counter: [u8; 16],
+}
+
+#[repr(C)]
+#[derive(Clone, Copy)]
+struct Pool {
+    chain: [u32; 8],
+    tail: [u8; 64],
+    length: u64,
+}
+
+#[repr(C)]
+#[derive(Clone, Copy)]
+struct State {
+    generator: Generator,
+    pools: [Pool; 32],
+    last_reseed: u32,
+    reseed_count: u32,
+    reseeded: bool,
+}
+
+#[repr(C)]
+struct Outcome {
+    number: u32,
+    emptied: u32,
+    next: State,
+}
+
+// The sizes that the header's structs have in C.
+const _: () =
+    assert!(size_of::<Pool>() == 104 && size_of::<State>() == 3392 && size_of::<Outcome>() == 3400);
+
+extern "C" {
+    fn fortuna_new() -> State;
+    fn fortuna_event(
+        state: State,
+        source: u32,
+        pool: u32,
+        data: *const u8,
+        length: usize,
+    ) -> Outcome;
+    fn fortuna_request(state: State, clock: u32, out: *mut u8, length: usize) -> Outcome;
+    fn fortuna_update(state: State, clock: u32, seed: *mut u8, length: usize) -> Outcome;
+    fn fortuna_write(state: State, clock: u32, seed: *mut u8, length: usize) -> Outcome;
+}
+
+/// Fortuna with its pools, timer and seeds. It is not `Clone`: two copies would give the same bytes.
+pub struct Fortuna {
+    state: State,
+}
+
+// In each call below pointer and length are those of one slice, which lasts for the call and overlaps nothing else. The
+// pointer of an empty slice is not null either.
+impl Fortuna {
+    /// Unseeded, with empty pools.
+    #[allow(clippy::new_without_default)]
+    pub fn new() -> Fortuna {
+        Fortuna {
+            state: unsafe { fortuna_new() },
+        }
+    }
+
+    /// A pool gains 1 to 32 bytes of noise from a source.
+    pub fn event(&mut self, source: u32, pool: u32, data: &[u8]) -> Result<(), Refusal> {
+        let outcome = unsafe { fortuna_event(self.state, source, pool, data.as_ptr(), data.len()) };
+        self.keep(outcome).map(|_| ())
+    }
+
+    /// Fills `out`, after a pool reseed if one is due. Gives how many pools were emptied, as the seed calls do.
+    pub fn request(&mut self, clock: u32, out: &mut [u8]) -> Result<u32, Refusal> {
+        let outcome = unsafe { fortuna_request(self.state, clock, out.as_mut_ptr(), out.len()) };
+        self.keep(outcome)
+    }
+
+    /// The seed goes in, and its successor stands in its place. Store that before anything is drawn.
+    pub fn update(&mut self, clock: u32, seed: &mut [u8; 64]) -> Result<u32, Refusal> {
+        let outcome = unsafe { fortuna_update(self.state, clock, seed.as_mut_ptr(), seed.len()) };
+        self.keep(outcome)
+    }
+
+    /// A seed for the next start.
+    pub fn write(&mut self, clock: u32, seed: &mut [u8; 64]) -> Result<u32, Refusal> {
+        let outcome = unsafe { fortuna_write(self.state, clock, seed.as_mut_ptr(), seed.len()) };
+        self.keep(outcome)
+    }
+
+    fn keep(&mut self, outcome: Outcome) -> Result<u32, Refusal> {
+        self.state = outcome.next;
+        match outcome.number {
+            0 => Ok(outcome.emptied),
+            number => Err(Refusal::from_number(number)),
+        }
+    }
+}

@@ -1,0 +1,73 @@
+//! A digitiser from start to stop: the stored seed goes in and its successor is stored before any
+//! key is drawn, noise goes in as events, link keys come out. Noise, clock and flash page are
+//! stand-ins, so that each run prints the same.
+use fortuna::{Fortuna, Refusal};
+
+const SOURCES: u32 = 3;
+const TURNS: u32 = 64;
+const POOLS: u32 = 32;
+
+/// Stands in for the page of flash memory that keeps the seed.
+fn stored_seed() -> [u8; 64] {
+    let text = b"a seed from the workshop, other bytes for each digitiser";
+    let mut seed = [0; 64];
+    seed[..text.len()].copy_from_slice(text);
+    seed
+}
+
+/// Stands in for samples of a sensor.
+fn sample(source: u32, turn: u32) -> [u8; 16] {
+    std::array::from_fn(|i| (89 * source + 31 * turn + 7 * i as u32) as u8)
+}
+
+fn hexadecimal(bytes: &[u8]) -> String {
+    bytes.iter().map(|b| format!("{b:02x}")).collect()
+}
+
+/// Each source goes round the pools by itself.
+fn gather_noise(f: &mut Fortuna) -> Result<(), Refusal> {
+    for turn in 0..TURNS {
+        for source in 0..SOURCES {
+            f.event(source, turn % POOLS, &sample(source, turn))?;
+        }
+    }
+    println!("{} events taken", SOURCES * TURNS);
+    Ok(())
+}
+
+/// A key, or why there is none: a caller can wait for noise and ask again.
+fn draw_key(f: &mut Fortuna, clock: u32) {
+    let mut key = [0; 32];
+    match f.request(clock, &mut key) {
+        Ok(emptied) => println!(
+            "key at {clock} ms, pools emptied {emptied}: {}",
+            hexadecimal(&key)
+        ),
+        Err(refusal) => println!("key at {clock} ms: {refusal}"),
+    }
+}
+
+/// A pool that there is not: the call says so, and the state stays as it was.
+fn misplace_event(f: &mut Fortuna) {
+    if let Err(refusal) = f.event(0, POOLS, &sample(0, 0)) {
+        println!("event for pool {POOLS}: {refusal}");
+    }
+}
+
+fn main() -> Result<(), Refusal> {
+    let mut f = Fortuna::new();
+    let mut flash = stored_seed();
+
+    draw_key(&mut f, 0);
+    f.update(10, &mut flash)?;
+    println!("seed updated: {}", hexadecimal(&flash));
+
+    gather_noise(&mut f)?;
+    draw_key(&mut f, 1000);
+    draw_key(&mut f, 1050);
+    misplace_event(&mut f);
+
+    f.write(2000, &mut flash)?;
+    println!("seed for the next start: {}", hexadecimal(&flash));
+    Ok(())
+}

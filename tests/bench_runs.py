@@ -1,0 +1,85 @@
+#!/usr/bin/env python3
+"""Runs a bench program on the stored logs and on streams that are hard to read.
+
+    tests/bench_runs.py PROGRAM      a line for each check; exits 1 where one failed"""
+import sys
+from functools import partial
+from itertools import chain
+from pathlib import Path
+
+from frames import Noise, event, log_of, request, update
+from logs import LOGS, answers_to
+from program import Failure, compare, run, run_file, run_in_pieces
+
+STORED = Path(__file__).parent / "logs"
+LONG = 5 * 10**6  # characters
+
+# A check is a title, a log, its answers, and a way to run a program on the log.
+
+
+def stored(name):
+    return (STORED / f"{name}.log").read_bytes(), (STORED / f"{name}.answers").read_bytes()
+
+
+def stored_checks():
+    for name in LOGS:
+        log, answers = stored(name)
+        yield f"{name}, from a file", log, answers, partial(run_file, path=STORED / f"{name}.log")
+        yield f"{name}, through a pipe", log, answers, partial(run, log=log)
+        for size in (1, 7):
+            yield f"{name}, {size} bytes at a time", log, answers, partial(run_in_pieces, log=log, size=size)
+
+
+def paused_checks():
+    log, answers = stored("example")
+    for size in (1, 2, 3, 11):
+        title = f"example, {size} bytes at a time, a pause after each"
+        yield title, log, answers, partial(run_in_pieces, log=log, size=size, pause=0.005)
+
+
+def long_lines():
+    """A line of megabytes answers 16 once, whatever it is made of and however it ends."""
+    before = log_of([event(7, 3, b"\xa1"), b""])
+    after = log_of([event(7, 32, b"\xa1")])
+    yield "digits, then LF", before + b"A5" * (LONG // 2) + b"\n" + after, b"00\n16\n16\n12\n"
+    yield "digits, end of input", before + b"A5" * (LONG // 2), b"00\n16\n16\n"
+    yield "starts like an event", before + b"010703" + b"00" * (LONG // 2) + b"\n" + after, b"00\n16\n16\n12\n"
+    yield "starts like an update", update(0, bytes(64)) + b"0" * LONG + b"\n" + after, b"16\n12\n"
+    yield "no digits", b"\0\xff\r " * (LONG // 4) + b"\n" + after, b"16\n12\n"
+    yield "odd", b"0" * (LONG + 1) + b"\n", b"16\n"
+
+
+def stream_checks():
+    for title, log, answers in long_lines():
+        yield f"long line, {title}", log, answers, partial(run, log=log)
+    yield "20000 empty lines", b"\n" * 20000, b"16\n" * 20000, partial(run, log=b"\n" * 20000)
+    log = b"".join(stored(name)[0] for name in LOGS)
+    answers = answers_to(log)
+    yield f"all logs as one, {len(answers.splitlines())} lines", log, answers, partial(run, log=log)
+    log = log_of([*Noise("slow reader").filling(64), *(request(0, 65535) for _ in range(10))])
+    yield "answers read slowly", log, answers_to(log), partial(run_in_pieces, log=log, size=4096, reading_pause=0.005)
+
+
+def passes(program, title, log, answers, way):
+    try:
+        compare(log, answers, way(program))
+    except Failure as why:
+        print(f"FAIL  {title}: {why}", flush=True)
+        return False
+    print(f"pass  {title}", flush=True)
+    return True
+
+
+def main(args):
+    if len(args) != 1:
+        print(__doc__, file=sys.stderr)
+        return 2
+    checks = chain(stored_checks(), paused_checks(), stream_checks())
+    results = [passes(args[0], *check) for check in checks]
+    failed = results.count(False)
+    print(f"{failed} of {len(results)} checks FAILED" if failed else f"{len(results)} checks passed")
+    return 1 if failed else 0
+
+
+if __name__ == "__main__":
+    sys.exit(main(sys.argv[1:]))

@@ -1,0 +1,171 @@
+/* Makes single calls on any states: a call with its state on each line of standard input, and what came back on a line
+   of standard output. tests/states_fuzz.py writes the one and reads the other.
+
+   A line is hexadecimal. First a byte for the call: 1 event, 2 request, 3 update, 4 write. Then the state: key,
+   counter, 32 times a pool's chain, tail and length, then last_reseed, reseed_count and a byte for reseeded. Then
+   source and pool for an event, or the clock; the rest is the data or the buffer. Numbers have their most significant
+   byte first. Back come the number, the pools emptied, the data or buffer after the call, and the next state, laid out
+   the same. */
+#define _POSIX_C_SOURCE 200809L
+#include "fortuna.h"
+
+#include <stdio.h>
+#include <stdlib.h>
+#include <string.h>
+
+enum { EVENT = 1, REQUEST, UPDATE, WRITE };
+
+/* Bytes before and after a buffer, by which a call that writes outside it is found out. */
+enum { GUARD = 16, GUARD_BYTE = 0xa5 };
+
+/* What is left to read of a line. */
+typedef struct {
+    const uint8_t *at;
+    size_t left;
+} reader;
+
+static _Noreturn void stop(const char *why)
+{
+    printf("states: %s\n", why);
+    exit(1);
+}
+
+static uint8_t digit(char c)
+{
+    if (c >= '0' && c <= '9')
+        return (uint8_t)(c - '0');
+    if (c < 'a' || c > 'f')
+        stop("a line that is not hexadecimal");
+    return (uint8_t)(c - 'a' + 10);
+}
+
+/* The bytes of the line take the place of its digits. */
+static reader decoded(char *line, size_t length)
+{
+    uint8_t *bytes = (uint8_t *)line;
+    for (size_t i = 0; i + 1 < length; i += 2)
+        bytes[i / 2] = (uint8_t)(digit(line[i]) << 4 | digit(line[i + 1]));
+    return (reader){bytes, length / 2};
+}
+
+static void take(reader *r, void *to, size_t length)
+{
+    if (r->left < length)
+        stop("a line that is too short");
+    memcpy(to, r->at, length);
+    r->at += length;
+    r->left -= length;
+}
+
+static uint64_t take_number(reader *r, size_t length)
+{
+    uint8_t bytes[8];
+    uint64_t n = 0;
+    take(r, bytes, length);
+    for (size_t i = 0; i < length; i++)
+        n = n << 8 | bytes[i];
+    return n;
+}
+
+static void take_pool(reader *r, fortuna_pool *p)
+{
+    for (int i = 0; i < 8; i++)
+        p->chain[i] = (uint32_t)take_number(r, 4);
+    take(r, p->tail, sizeof p->tail);
+    p->length = take_number(r, 8);
+}
+
+static fortuna_state take_state(reader *r)
+{
+    fortuna_state s;
+    take(r, s.generator.key, sizeof s.generator.key);
+    take(r, s.generator.counter, sizeof s.generator.counter);
+    for (int i = 0; i < 32; i++)
+        take_pool(r, &s.pools[i]);
+    s.last_reseed = (uint32_t)take_number(r, 4);
+    s.reseed_count = (uint32_t)take_number(r, 4);
+    s.reseeded = take_number(r, 1) != 0;
+    return s;
+}
+
+static void print_bytes(const uint8_t *bytes, size_t length)
+{
+    for (size_t i = 0; i < length; i++) {
+        putchar("0123456789abcdef"[bytes[i] >> 4]);
+        putchar("0123456789abcdef"[bytes[i] & 15]);
+    }
+}
+
+static void print_state(const fortuna_state *s)
+{
+    print_bytes(s->generator.key, sizeof s->generator.key);
+    print_bytes(s->generator.counter, sizeof s->generator.counter);
+    for (int i = 0; i < 32; i++) {
+        for (int j = 0; j < 8; j++)
+            printf("%08x", s->pools[i].chain[j]);
+        print_bytes(s->pools[i].tail, sizeof s->pools[i].tail);
+        printf("%016llx", (unsigned long long)s->pools[i].length);
+    }
+    printf("%08x%08x%02x\n", s->last_reseed, s->reseed_count, s->reseeded);
+}
+
+static void check_guards(const uint8_t *area, size_t length)
+{
+    for (size_t i = 0; i < GUARD; i++)
+        if (area[i] != GUARD_BYTE || area[GUARD + length + i] != GUARD_BYTE)
+            stop("a call wrote outside its buffer");
+}
+
+static fortuna_outcome call(
+    uint8_t kind, fortuna_state state, const uint32_t arguments[2], uint8_t *buffer, size_t length)
+{
+    switch (kind) {
+    case EVENT:
+        return fortuna_event(state, arguments[0], arguments[1], buffer, length);
+    case REQUEST:
+        return fortuna_request(state, arguments[0], buffer, length);
+    case UPDATE:
+        return fortuna_update(state, arguments[0], buffer, length);
+    case WRITE:
+        return fortuna_write(state, arguments[0], buffer, length);
+    default:
+        stop("a line with no call");
+    }
+}
+
+static void answer(reader r)
+{
+    uint8_t kind = (uint8_t)take_number(&r, 1);
+    fortuna_state state = take_state(&r);
+    uint32_t arguments[2] = {(uint32_t)take_number(&r, 4), 0};
+    if (kind == EVENT)
+        arguments[1] = (uint32_t)take_number(&r, 4);
+    size_t length = r.left;
+    uint8_t *area = malloc(length + 2 * GUARD);
+    if (!area)
+        stop("no memory");
+    memset(area, GUARD_BYTE, length + 2 * GUARD);
+    take(&r, area + GUARD, length);
+    fortuna_outcome o = call(kind, state, arguments, area + GUARD, length);
+    check_guards(area, length);
+    printf("%u %u ", o.number, o.emptied);
+    print_bytes(area + GUARD, length);
+    printf(" ");
+    print_state(&o.next);
+    free(area);
+}
+
+int main(void)
+{
+    char *line = NULL;
+    size_t room = 0;
+    ssize_t length;
+    while ((length = getline(&line, &room, stdin)) > 0) {
+        if (line[length - 1] == '\n')
+            length--;
+        answer(decoded(line, (size_t)length));
+        fflush(stdout);
+    }
+    free(line);
+    return 0;
+}

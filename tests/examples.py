@@ -1,0 +1,53 @@
+#!/usr/bin/env python3
+"""What the programs in examples/ must print, worked out by tests/station.py.
+
+    tests/examples.py                  prints it
+    tests/examples.py --check FILE     exits 1 where FILE differs"""
+import sys
+
+import station
+
+SEED = b"a seed from the workshop, other bytes for each digitiser".ljust(64, b"\0")
+
+
+def sample(source, turn):
+    return bytes((89 * source + 31 * turn + 7 * i) % 256 for i in range(16))
+
+
+def key_line(clock, outcome):
+    return f"key at {clock} ms, pools emptied {outcome.emptied}: {outcome.buffer.hex()}"
+
+
+def lines():
+    early = station.request(station.FRESH, 0, bytes(32))
+    yield f"key at 0 ms: refused, {early.number} (no seed and too little noise)"
+    updated = station.update(early.next, 10, SEED)
+    yield f"seed updated: {updated.buffer.hex()}"
+    state = updated.next
+    for turn in range(64):
+        for source in range(3):
+            state = station.event(state, source, turn % 32, sample(source, turn)).next
+    yield "192 events taken"
+    first = station.request(state, 1000, bytes(32))
+    yield key_line(1000, first)
+    second = station.request(first.next, 1050, bytes(32))
+    yield key_line(1050, second)
+    refused = station.event(second.next, 0, 32, sample(0, 0))
+    yield f"event for pool 32: refused, {refused.number} (no such pool)"
+    yield f"seed for the next start: {station.write(refused.next, 2000, updated.buffer).buffer.hex()}"
+
+
+def main(args):
+    text = "".join(f"{line}\n" for line in lines())
+    if args[:1] != ["--check"]:
+        print(text, end="")
+        return 0
+    with open(args[1], encoding="ascii") as stored:
+        if stored.read() == text:
+            return 0
+    print(f"{args[1]}: not what tests/station.py works out", file=sys.stderr)
+    return 1
+
+
+if __name__ == "__main__":
+    sys.exit(main(sys.argv[1:]))

@@ -1,0 +1,201 @@
+#!/usr/bin/env python3
+"""Compares a bench program with tests/logbook.py on logs made at random.
+
+    tests/fuzz.py PROGRAM [--seconds S] [--seed N]
+
+Lines lean towards what is near a bound: readings 100 and 101 ms after the mark, pool 0 at 63 and 64 bytes, lines of 256
+and 258 characters, seeds of 63 to 65 bytes. At a difference the log is shortened by leaving lines out, stored, and the
+exit status is 1."""
+import argparse
+import random
+import sys
+import tempfile
+import time
+from pathlib import Path
+
+import frames
+from logbook import MAX_LINE, Logbook, answer
+from logs import answers_to
+from program import Failure, compare, run
+
+REPORT_EVERY = 5  # seconds
+SHORTENING = 20  # seconds
+
+
+class Writer:
+    """Writes one log. It keeps the logbook of what it wrote, so that it can aim at the bounds."""
+
+    def __init__(self, chance):
+        self.chance = chance
+        self.book = Logbook()
+        self.time = self.chance.choice([0, 0, 1, 5000, 2**31, 2**32 - 1000, chance.randrange(2**32)])
+        self.seed = chance.randbytes(64)
+
+    def one_of(self, values, weights):
+        return self.chance.choices(values, weights)[0]
+
+    # ---- arguments
+
+    def reading(self):
+        step = self.chance.choice([0, 1, 49, 50, 50, 99, 100, 101, 150, 1000])
+        self.time = self.one_of(
+            [
+                (self.time + step) % 2**32,
+                (self.book.mark + self.chance.choice([0, 99, 100, 101, 102])) % 2**32,
+                (self.book.mark - self.chance.choice([1, 2, 50, 101])) % 2**32,
+                self.chance.choice([0, 1, 2**31 - 1, 2**31, 2**32 - 1]),
+                self.chance.randrange(2**32),
+            ],
+            [12, 5, 1, 1, 1],
+        )
+        return self.time
+
+    def size(self):
+        """n of a request."""
+        small = self.chance.randrange(40)
+        return self.one_of([0, 1, 15, 16, 17, small, 300, 5000, 65535], [4, 2, 2, 4, 2, 20, 2, 0.3, 0.05])
+
+    def seed_bytes(self):
+        whole = [self.seed, self.chance.randbytes(64), bytes(64), b"\xff" * 64]
+        other = self.chance.choice([0, 1, 32, 62, 63, 65, 66, 123])
+        return self.one_of([*whole, self.chance.randbytes(other)], [12, 4, 1, 1, 4])
+
+    def data(self):
+        size = self.one_of([0, 1, 2, 31, 32, 33, 125, self.chance.randrange(1, 33)], [1, 3, 2, 2, 8, 1, 0.3, 8])
+        return self.chance.randbytes(size)
+
+    # ---- right lines
+
+    def event(self):
+        pool = self.one_of([0, self.chance.randrange(6), self.chance.randrange(32), 32, 255], [10, 6, 6, 1, 0.5])
+        source = self.chance.choice([0, 1, 2, 255, self.chance.randrange(256)])
+        return frames.event(source, pool, self.data())
+
+    def filling(self):
+        """An event that brings pool 0 to 63, 64 or 65 bytes, where one can."""
+        size = self.chance.choice([63, 64, 64, 65]) - self.book.length(0) - 2
+        return frames.event(self.chance.randrange(256), 0, self.chance.randbytes(min(max(size, 1), 32)))
+
+    def request(self):
+        return frames.request(self.reading(), self.size())
+
+    def update(self):
+        return frames.update(self.reading(), self.seed_bytes())
+
+    def write(self):
+        return frames.write(self.reading())
+
+    def right(self):
+        makers = [self.event, self.filling, self.request, self.update, self.write]
+        return self.one_of(makers, [9, 9, 7, 2, 1])()
+
+    # ---- near-frames
+
+    def character(self):
+        bounds = b"/:@G`afg \t\r\0\x7f\x80\xb1\xff"
+        return bytes([self.chance.choice([self.chance.choice(bounds), self.chance.choice(b"0123456789ABCDEF")])])
+
+    def bent(self):
+        """A right line with one thing changed: a character, a digit more or less, the case, or the first byte."""
+        line = self.right()
+        place = self.chance.randrange(len(line))
+        return self.chance.choice(
+            [
+                line[:place] + self.character() + line[place + 1 :],
+                line[:place] + self.character() + line[place:],
+                line[:place] + line[place + 1 :],
+                line[:place],
+                line[: place // 2 * 2],
+                line + line,
+                line.lower(),
+                line + b"\r",
+                b"%02X" % self.chance.randrange(256) + line[2:],
+            ]
+        ).replace(b"\n", b"")
+
+    def stretched(self):
+        """A line about as long as a frame may be, or far longer."""
+        size = self.one_of([MAX_LINE + self.chance.randrange(-3, 4), 70000, 10**6], [20, 1, 0.2])
+        return (self.right() + b"%02X" % self.chance.randrange(256) * (size // 2))[:size]
+
+    def line(self):
+        makers = [self.right, self.bent, self.stretched, lambda: b""]
+        return self.one_of(makers, [30, 5, 1, 0.5])()
+
+    def log(self):
+        lines = []
+        for _ in range(self.one_of([1, 5, 40, 150, 1500], [4, 4, 8, 4, 0.5])):
+            lines.append(self.line())
+            output = answer(self.book, lines[-1])[6:]
+            if len(output) == 128:
+                self.seed = bytes.fromhex(output.decode())
+        return b"\n".join(lines) + self.chance.choice([b"\n", b"\n", b""])
+
+
+# ---- comparing
+
+def difference(program, log):
+    """Why the program's answers are not the logbook's; None where they are."""
+    try:
+        compare(log, answers_to(log), run(program, log))
+    except Failure as why:
+        return str(why)
+    return None
+
+
+def shortened(program, log):
+    """The log without lines that the difference does not need: halves first, then ever smaller parts."""
+    end = time.monotonic() + SHORTENING
+    lines = log.split(b"\n")
+    part = max(len(lines) // 2, 1)
+    while part and time.monotonic() < end:
+        start = 0
+        while start < len(lines) and time.monotonic() < end:
+            fewer = lines[:start] + lines[start + part :]
+            if difference(program, b"\n".join(fewer)):
+                lines = fewer
+            else:
+                start += part
+        part //= 2
+    return b"\n".join(lines)
+
+
+def report(program, log):
+    short = shortened(program, log)
+    path = Path(tempfile.mkdtemp(prefix="fuzz-")) / "failing.log"
+    path.write_bytes(short)
+    path.with_suffix(".answers").write_bytes(answers_to(short))
+    print(f"FAIL  {difference(program, short)}")
+    print(f"the log is {path}, what tests/logbook.py answers is beside it")
+
+
+def fuzz(program, seconds, seed):
+    chance = random.Random(seed)
+    start = shown = time.monotonic()
+    logs = lines = 0
+    while time.monotonic() < start + seconds:
+        log = Writer(chance).log()
+        if difference(program, log):
+            report(program, log)
+            return 1
+        logs += 1
+        lines += log.count(b"\n")
+        if time.monotonic() > shown + REPORT_EVERY:
+            shown = time.monotonic()
+            print(f"{shown - start:.0f} s: {logs} logs, {lines} lines", flush=True)
+    print(f"pass  {logs} logs with {lines} lines, no difference")
+    return 0
+
+
+def main():
+    parser = argparse.ArgumentParser(description=__doc__, formatter_class=argparse.RawDescriptionHelpFormatter)
+    parser.add_argument("program")
+    parser.add_argument("--seconds", type=float, default=20)
+    parser.add_argument("--seed", type=int, default=random.randrange(2**32))
+    chosen = parser.parse_args()
+    print(f"seed {chosen.seed}", flush=True)
+    return fuzz(chosen.program, chosen.seconds, chosen.seed)
+
+
+if __name__ == "__main__":
+    sys.exit(main())

@@ -1,0 +1,223 @@
+#!/usr/bin/env python3
+"""An implementation made elsewhere: the whole station, by the rules of 01's plain logbook, and the bench's answers.
+
+    tests/logbook.py < LOG      prints what the bench must print
+
+It holds no pools. It notes each accepted event with its r, the pool reseeds made before it, and works out from r which
+reseed the event is booked for; what a pool holds or gives follows from the bookings. Nothing is taken from the station.
+SHA-256 is Python's hashlib, AES-256 is tests/aes256.py."""
+import sys
+from collections import defaultdict, namedtuple
+
+import generator
+from generator import MAX_COUNT, MAX_REQUEST, block_count, double_sha256
+from sha256 import INITIAL, MAX_MESSAGE, compress
+
+POOLS = 32
+SEED_SIZE = 64
+CLOCK = 2**32
+
+Event = namedtuple("Event", "source pool data r")
+Pool = namedtuple("Pool", "chain tail length")
+Station = namedtuple("Station", "key counter mark reseed_number reseeded pools")
+
+
+def gained(event):
+    """What the event's pool gains: source byte, length byte, data."""
+    return bytes([event.source, len(event.data)]) + event.data
+
+
+def booked(event):
+    """The pool reseed that an event is booked for."""
+    return 2**event.pool * (event.r // 2**event.pool + 1)
+
+
+def running(content):
+    """The running hash, tail and length that a pool's bytes leave."""
+    whole = len(content) // 64 * 64
+    chain = INITIAL
+    for i in range(0, whole, 64):
+        chain = compress(chain, content[i : i + 64])
+    return Pool(tuple(chain), content[whole:].ljust(64, b"\0"), len(content))
+
+
+class Logbook:
+    """A call gives its number (0: accepted), the count of pools emptied, and the lent buffer afterwards."""
+
+    def __init__(self):
+        self.generator = generator.FRESH
+        self.mark = 0
+        self.reseeds = 0  # R, never wrapped
+        self.events = []
+        # their bytes in arrival order, by pool and by the reseed booked for, so that a long run needs no search
+        self.bookings = [defaultdict(bytearray) for _ in range(POOLS)]
+
+    # ---- what follows from the bookings
+
+    def held(self, pool):
+        """The strings of the pool's events booked above R, in arrival order."""
+        strings = []
+        for number in reversed(self.bookings[pool]):
+            if number <= self.reseeds:
+                break  # R never falls, so within a pool no earlier booking is for a later reseed
+            strings.insert(0, self.bookings[pool][number])
+        return strings
+
+    def contents(self, pool):
+        return b"".join(self.held(pool))
+
+    def length(self, pool):
+        return sum(map(len, self.held(pool)))
+
+    def given(self, pool, number):
+        """The string whose D the pool gives to a reseed."""
+        return self.bookings[pool].get(number, b"")
+
+    def due(self, clock):
+        return self.length(0) >= 64 and (self.reseeds == 0 or (clock - self.mark) % CLOCK > 100)
+
+    def station(self):
+        """The state that the station must have."""
+        pools = tuple(running(self.contents(i)) for i in range(POOLS))
+        counter = generator.counter_bytes(self.generator.count)
+        return Station(self.generator.key, counter, self.mark, self.reseeds % 2**32, self.reseeds > 0, pools)
+
+    # ---- refusals: input numbers before state numbers, the lower first; 21 never arises
+
+    def event_refusal(self, source, pool, data):
+        if source > 255:
+            return 11
+        if pool >= POOLS:
+            return 12
+        if not 1 <= len(data) <= 32:
+            return 13
+        if self.length(pool) + 2 + len(data) > MAX_MESSAGE:
+            return 22
+        return 0
+
+    def spent(self, clock, blocks):
+        """24: the counter would run out."""
+        return self.generator.count + (1 if self.due(clock) else 0) + blocks > MAX_COUNT
+
+    def output_refusal(self, clock, blocks):
+        if self.generator.count == 0 and not self.due(clock):
+            return 23
+        return 24 if self.spent(clock, blocks) else 0
+
+    def request_refusal(self, clock, buffer):
+        if len(buffer) > MAX_REQUEST:
+            return 14
+        return self.output_refusal(clock, block_count(len(buffer)) + 2)
+
+    def update_refusal(self, clock, seed):
+        if len(seed) != SEED_SIZE:
+            return 15
+        return 24 if self.spent(clock, 7) else 0
+
+    def write_refusal(self, clock, seed):
+        if len(seed) != SEED_SIZE:
+            return 15
+        return self.output_refusal(clock, block_count(SEED_SIZE) + 2)
+
+    # ---- the calls
+
+    def event(self, source, pool, data):
+        refusal = self.event_refusal(source, pool, data)
+        if not refusal:
+            event = Event(source, pool, data, self.reseeds)
+            self.events.append(event)
+            self.bookings[pool][booked(event)] += gained(event)
+        return refusal, 0, b""
+
+    def request(self, clock, buffer):
+        refusal = self.request_refusal(clock, buffer)
+        return (refusal, 0, buffer) if refusal else self.output(clock, len(buffer))
+
+    def update(self, clock, seed):
+        refusal = self.update_refusal(clock, seed)
+        if refusal:
+            return refusal, 0, seed
+        self.reseed_generator(seed)
+        return self.output(clock, SEED_SIZE)
+
+    def write(self, clock, seed):
+        refusal = self.write_refusal(clock, seed)
+        return (refusal, 0, seed) if refusal else self.output(clock, SEED_SIZE)
+
+    # ---- what an accepted call does
+
+    def reseed_generator(self, seed):
+        number, self.generator = generator.reseed(self.generator, seed)
+        assert number == 0
+
+    def pool_reseed(self, clock):
+        """The count of pools emptied."""
+        self.reseeds += 1
+        self.mark = clock
+        used = [i for i in range(POOLS) if self.reseeds % 2**i == 0]
+        self.reseed_generator(b"".join(double_sha256(self.given(i, self.reseeds)) for i in used))
+        return len(used)
+
+    def output(self, clock, n):
+        """The pool reseed if due, then the generator's request."""
+        emptied = self.pool_reseed(clock) if self.due(clock) else 0
+        buffer = bytearray(n)
+        number, self.generator = generator.request(self.generator, buffer)
+        assert number == 0
+        return 0, emptied, bytes(buffer)
+
+
+# ---- bench lines
+
+MAX_LINE = 256
+DIGITS = frozenset(b"0123456789ABCDEF")
+
+
+def lines(stream):
+    """The lines of a stream without their LF. Of a line too long for a frame it gives a start too long as well."""
+    while line := stream.readline(MAX_LINE + 2):
+        part = line
+        while part and not part.endswith(b"\n"):
+            part = stream.readline(65536)
+        yield line.removesuffix(b"\n")
+
+
+def call_of(line):
+    """The name and the arguments of the call that a line asks for; None where it is no frame."""
+    if not 0 < len(line) <= MAX_LINE or len(line) % 2 or not DIGITS.issuperset(line):
+        return None
+    frame = bytes.fromhex(line.decode("ascii"))
+    first, rest = frame[0], frame[1:]
+    clock, after = int.from_bytes(rest[:4], "big"), rest[4:]
+    if first == 1 and len(rest) >= 2:
+        return "event", rest[0], rest[1], rest[2:]
+    if first == 2 and len(rest) == 6:
+        return "request", clock, bytes(int.from_bytes(after, "big"))
+    if first == 3 and len(rest) >= 4:
+        return "update", clock, after
+    if first == 4 and len(rest) == 4:
+        return "write", clock, bytes(SEED_SIZE)
+    return None
+
+
+def answer(book, line):
+    """What the bench prints for a line, without the LF."""
+    call = call_of(line)
+    if call is None:
+        return b"16"
+    name, *arguments = call
+    number, emptied, buffer = getattr(book, name)(*arguments)
+    if number or name == "event":
+        return b"%02d" % number
+    return b" ".join([b"00", b"%02d" % emptied] + ([buffer.hex().upper().encode()] if buffer else []))
+
+
+def answers(stream):
+    """The bench's answer to each line of a stream, with its LF."""
+    book = Logbook()
+    for line in lines(stream):
+        yield answer(book, line) + b"\n"
+
+
+if __name__ == "__main__":
+    sys.stdout.buffer.writelines(answers(sys.stdin.buffer))

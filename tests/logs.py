@@ -1,0 +1,284 @@
+#!/usr/bin/env python3
+"""The stored logs for the bench, and their answers, which tests/logbook.py works out.
+
+    tests/logs.py --write DIRECTORY      writes NAME.log and NAME.answers
+    tests/logs.py --check DIRECTORY      makes them again and exits 1 where a stored file differs, and says where
+
+Nothing in a log comes from chance or from the clock, so the logs are the same wherever they are made."""
+import io
+import sys
+from itertools import zip_longest
+from pathlib import Path
+
+import logbook
+from frames import Noise, event, log_of, request, update, write
+
+LAST = 2**32 - 1  # the clock's last reading
+
+
+def answers_to(log):
+    return b"".join(logbook.answers(io.BytesIO(log)))
+
+
+# ---- 01's own example, and logs that end in their own way
+
+EXAMPLE = b"010703A1B2\n0107200A\n010703\n02000000000010\n0400000000\n0300000000\n0G\n"
+EXAMPLE_ANSWERS = b"00\n12\n13\n23\n23\n15\n16\n"
+
+
+def example():
+    assert answers_to(EXAMPLE) == EXAMPLE_ANSWERS
+    return EXAMPLE
+
+
+def empty():
+    return b""
+
+
+def no_final_newline():
+    noise = Noise("no final newline")
+    return log_of([*noise.filling(64), update(0, noise.take(64)), request(0, 16)]) + request(0, 32)
+
+
+# ---- frames and near-frames
+
+RIGHT = [
+    event(7, 3, b"\xa1\xb2"),
+    request(0, 16),
+    update(0, bytes(range(64))),
+    write(0),
+]
+
+
+def cut_and_lengthened():
+    """Missing fields, left-over bytes and odd digits: each right line, by a digit and by a byte shorter and longer."""
+    for line in RIGHT:
+        yield from (line[:-1], line[:-2], line + b"0", line + b"00", line[1:], b"0" + line, line)
+    for first in (b"01", b"02", b"03", b"04"):
+        for size in range(0, 17):
+            yield first + b"0" * size
+
+
+def other_first_bytes():
+    for first in (0x00, 0x05, 0x06, 0x0F, 0x10, 0x11, 0x20, 0x40, 0x7F, 0x80, 0x81, 0x84, 0xFF):
+        for line in RIGHT:
+            yield b"%02X" % first + line[2:]
+
+
+def other_characters():
+    """The neighbours of the digits, lower case, and what a terminal, a spreadsheet or a bad line may leave."""
+    for character in b"/:@G`abcdefg xX-+_.,;#\"'\t\v\f\r\b\0\x1b\x7f\x80\xb0\xc1\xff":
+        for line in RIGHT:
+            strange = bytes([character])
+            yield from (strange + line[1:], line[:-1] + strange, line + strange, strange + line)
+    for line in RIGHT:
+        yield from (line.lower(), b"0x" + line, line[:2] + b" " + line[2:], line + b"\r", line[:6] + b"\0" * 2)
+    yield from (b"\xef\xbb\xbf" + RIGHT[0], "٠١".encode(), "０１０７０３".encode("utf-8"), b"\r", b" ", b"\0")
+
+
+def line_lengths():
+    for size in (63, 64, 65, 127, 128, 129, 254, 255, 256, 257, 258, 259, 260, 511, 512, 513, 1023, 1024, 1025, 4096):
+        yield (b"010703" + b"A5" * size)[:size]
+        yield (b"0300000000" + b"A5" * size)[:size]
+        yield (b"02" * size)[:size]
+        yield b"g" * size
+
+
+def data_lengths():
+    for size in (0, 1, 2, 31, 32, 33, 34, 125):
+        for pool in (1, 31, 32):
+            yield event(9, pool, bytes([0x30 + size]) * size)
+
+
+def numbers():
+    """Pools and sources at their bounds; 12 comes before 13."""
+    for pool in (1, 30, 31, 32, 33, 127, 128, 254, 255):
+        for source in (0, 1, 127, 128, 255):
+            yield from (event(source, pool, b"\x5a"), event(source, pool, b""), event(source, pool, bytes(33)))
+
+
+def seed_lengths():
+    for size in (0, 1, 32, 62, 63, 65, 66, 96, 122, 123):
+        yield update(10**6, b"\x77" * size)
+
+
+def sizes():
+    yield from (request(200, n) for n in (0, 1, 2, 15, 16, 17, 31, 32, 33, 48, 255, 256, 257, 1023, 4096))
+
+
+def near_frames():
+    yield from cut_and_lengthened()
+    yield from other_first_bytes()
+    yield from other_characters()
+    yield from line_lengths()
+    yield from (b"", b"")
+
+
+def frames():
+    """Refusals before the first reseed, with pool 0 at 63 and at 64 bytes, and after it."""
+    noise = Noise("frames")
+    lines = [*seed_lengths(), *data_lengths(), *numbers()]
+    lines += [request(5, 0), request(5, 65535), write(5), *noise.filling(63)]
+    lines += [request(5, 0), request(LAST, 65535), write(5), *seed_lengths()]
+    lines += [noise.event(0, 1), *seed_lengths(), request(5, 0), *sizes()]
+    lines += [*near_frames(), request(6, 20), *noise.filling(64), *seed_lengths(), *data_lengths(), *numbers()]
+    lines += [request(300, 65535), write(300), update(300, bytes(64)), request(300, 65535), request(300, 7), b""]
+    return log_of(lines)
+
+
+# ---- the timer
+
+def elapsed_bounds(noise):
+    """From marks all round the clock: how long ago a reading is, up to the longest wait that there is."""
+    yield from noise.filling(64)
+    mark = 7
+    yield request(mark, 4)
+    for wait in (0, 1, 50, 99, 100, 101, 102, 150, 2**31 - 1, 2**31, 2**31 + 1, 2**32 - 102, 2**32 - 101, 2**32 - 1):
+        for start in (0, 10, 2**31 - 50, 2**31, 2**32 - 101, 2**32 - 100, 2**32 - 6, 2**32 - 1):
+            if (start - mark) % 2**32 <= 100:
+                mark = mark + 2**31
+                yield from [*noise.filling(64), request(mark, 4)]
+            mark = start
+            yield from [*noise.filling(64), request(mark, 4), *noise.filling(64), request(mark + wait, 4)]
+            if wait > 100:
+                mark = mark + wait
+
+
+def workbench():
+    """01's readings: mark 4,294,967,290, 100 and 101 ms later; mark 10, reading 5."""
+    noise = Noise("workbench")
+    yield from noise.filling(64)
+    yield write(4294967290)
+    yield from noise.filling(64)
+    yield from (request(94, 8), request(95, 8))
+    yield from noise.filling(64)
+    yield from (request(95 + 101, 8), request(10, 8))
+    yield from noise.filling(64)
+    yield from (request(10, 8), request(5, 8))
+
+
+def draws(noise, start, count, fill):
+    """A draw every 50 ms, with events for pool 0 before each."""
+    for i in range(count):
+        yield from noise.filling(fill)
+        yield request(start + 50 * i, 16)
+
+
+def seed_calls(noise):
+    """Seed calls at 100 and at 101 ms, refused ones between: only a pool reseed moves the mark."""
+    mark = 10**6
+    yield from [*noise.filling(64), request(mark, 4), *noise.filling(64)]
+    yield from (update(mark + 60, noise.take(64)), write(mark + 70), update(mark + 90, bytes(63)))
+    yield from (request(mark + 100, 4), update(mark + 500, bytes(65)), request(mark + 99, 4))
+    yield update(mark + 101, noise.take(64))
+    yield from [*noise.filling(64), write(mark + 201), write(mark + 202), *noise.filling(64)]
+    yield from (write(mark + 302), request(mark + 302, 4), request(mark + 303, 4), request(mark + 404, 4))
+
+
+def clock():
+    noise = Noise("clock")
+    lines = [*workbench(), *elapsed_bounds(noise), *seed_calls(noise)]
+    lines += draws(noise, 5 * 10**6, 30, 40)
+    lines += draws(noise, 1000, 30, 64)  # set back
+    lines += draws(noise, 2**32 - 700, 30, 64)  # wraps
+    for _ in range(5):
+        lines += [*noise.filling(64), request(4000, 1)]  # stands still
+    lines.append(request(4101, 1))
+    lines += [*noise.filling(63), request(9000, 1), write(9000), noise.event(0, 1), request(9000, 1)]
+    return log_of(lines)
+
+
+# ---- long runs
+
+def reseeds():
+    """600 reseeds, so that pools 0 to 9 come due; events in all pools, and draws before a reseed is due."""
+    noise = Noise("reseeds")
+    lines = []
+    time = 2**32 - 30000
+    for turn in range(600):
+        lines += noise.filling(64 + noise.below(8))
+        lines += [noise.event(turn % 32, 1 + noise.below(32)), noise.event(1 + noise.below(9), 1 + noise.below(12))]
+        if turn % 5 == 0:
+            lines.append(request(time + noise.below(101), noise.below(8)))
+        time += 101 + noise.below(3)
+        call = request(time, noise.below(24))
+        if turn % 40 == 16:
+            call = update(time, noise.take(64))
+        if turn % 40 == 31:
+            call = write(time)
+        lines.append(call)
+    return log_of(lines)
+
+
+def seeds():
+    """Each update's 64 bytes are the next update's seed; writes, requests and pool reseeds come between."""
+    noise = Noise("seeds")
+    book = logbook.Logbook()
+    lines = []
+
+    def call(line):
+        lines.append(line)
+        return bytes.fromhex(logbook.answer(book, line)[6:].decode())
+
+    seed = bytes(64)
+    for turn in range(120):
+        if turn % 3 == 1:
+            for line in noise.filling(64):
+                call(line)
+        seed = call(update(turn * 60, seed))
+        if turn % 4 == 2:
+            seed = call(write(turn * 60 + 20))
+        call(request(turn * 60 + 30, 16))
+    call(update(10**5, b"\xff" * 64))
+    return log_of(lines)
+
+
+LOGS = {make.__name__: make for make in (example, empty, no_final_newline, frames, clock, reseeds, seeds)}
+
+
+def files():
+    """File names and contents."""
+    for name, make in LOGS.items():
+        log = make()
+        yield f"{name}.log", log
+        yield f"{name}.answers", answers_to(log)
+
+
+# ---- writing and checking
+
+def first_difference(expected, found):
+    """The first line, from 1, at which two texts differ."""
+    pairs = zip_longest(expected.split(b"\n"), found.split(b"\n"))
+    return next(n for n, (a, b) in enumerate(pairs, 1) if a != b)
+
+
+def differences(directory):
+    made = dict(files())
+    for name, expected in made.items():
+        path = directory / name
+        if not path.is_file():
+            yield f"{path}: missing"
+        elif path.read_bytes() != expected:
+            yield f"{path}:{first_difference(expected, path.read_bytes())}: not what tests/logs.py makes"
+    for path in sorted(directory.iterdir()):
+        if path.name not in made:
+            yield f"{path}: tests/logs.py makes no such file"
+
+
+def main(args):
+    if len(args) != 2 or args[0] not in ("--write", "--check"):
+        print(__doc__, file=sys.stderr)
+        return 2
+    directory = Path(args[1])
+    if args[0] == "--write":
+        directory.mkdir(parents=True, exist_ok=True)
+        for name, content in files():
+            (directory / name).write_bytes(content)
+        return 0
+    found = list(differences(directory))
+    print("\n".join(found) if found else f"{2 * len(LOGS)} files in {directory} are what tests/logs.py makes")
+    return 1 if found else 0
+
+
+if __name__ == "__main__":
+    sys.exit(main(sys.argv[1:]))

@@ -1,0 +1,332 @@
+#!/usr/bin/env python3
+"""Calls on chosen and random states, made by the library and by tests/station.py, and compared.
+
+    tests/states_fuzz.py PROGRAM [--seconds S] [--seed N]
+
+PROGRAM is tests/c_interface/states.c linked with the library, which says how a line is laid out. States and arguments
+are biased to the boundaries of every number. Prints how often each number occurred. Exits 1 where an answer differs,
+with the line that shows it, or where a number or a clause of 21 never occurred. The same seed gives the same calls."""
+import argparse
+import random
+import subprocess
+import sys
+import time
+from collections import Counter
+from dataclasses import dataclass
+
+import station
+from generator import MAX_COUNT, MAX_REQUEST, block_count
+from station import EMPTY, FRESH, MAX_POOL, POOLS, SEED_SIZE, Pool, State
+
+KINDS = ("event", "request", "update", "write")
+NUMBERS = {
+    "event": (0, 11, 12, 13, 21, 22),
+    "request": (0, 14, 21, 23, 24),
+    "update": (0, 15, 21, 24),
+    "write": (0, 15, 21, 23, 24),
+}
+
+
+@dataclass
+class Case:
+    """A call. buffer is the event's data, or what the lent buffer holds."""
+
+    kind: str
+    state: State
+    clock: int = 0
+    source: int = 0
+    pool: int = 0
+    buffer: bytes = b""
+
+    def change(self, **fields):
+        self.state = self.state._replace(**fields)
+
+    def set_pool(self, i, pool):
+        pools = list(self.state.pools)
+        pools[i] = pool
+        self.change(pools=tuple(pools))
+
+    def growth(self):
+        """u + b of 24."""
+        blocks = {"event": 0, "request": block_count(len(self.buffer)) + 2, "update": 7, "write": 6}[self.kind]
+        return blocks + station.due(self.state, self.clock)
+
+    def expected(self):
+        if self.kind == "event":
+            return station.event(self.state, self.source, self.pool, self.buffer)
+        return getattr(station, self.kind)(self.state, self.clock, self.buffer)
+
+
+# ---- lines
+
+
+def state_hex(s):
+    parts = [s.key, s.count.to_bytes(16, "little")]
+    for p in s.pools:
+        parts += [word.to_bytes(4, "big") for word in p.chain]
+        parts += [p.tail, p.length.to_bytes(8, "big")]
+    parts += [s.last_reseed.to_bytes(4, "big"), s.reseed_count.to_bytes(4, "big"), bytes([s.reseeded])]
+    return b"".join(parts).hex()
+
+
+def question(case):
+    numbers = (case.source, case.pool) if case.kind == "event" else (case.clock,)
+    arguments = b"".join(n.to_bytes(4, "big") for n in numbers)
+    return f"{KINDS.index(case.kind) + 1:02x}{state_hex(case.state)}{arguments.hex()}{case.buffer.hex()}"
+
+
+def answer(outcome):
+    return f"{outcome.number} {outcome.emptied} {outcome.buffer.hex()} {state_hex(outcome.next)}"
+
+
+# ---- well-formed states and arguments that are taken, unless a pool has no room or the counter is spent
+
+
+def pool_of(r, length):
+    chain = tuple(r.getrandbits(32) for _ in range(8)) if length >= 64 else EMPTY.chain
+    return Pool(chain, r.randbytes(length % 64).ljust(64, b"\0"), length)
+
+
+def any_pool(r):
+    near_limit = MAX_POOL - r.randrange(130)
+    return pool_of(r, r.choice((0, r.randrange(64), 64, r.randrange(64, 300), near_limit, r.randrange(2**61))))
+
+
+def any_state(r):
+    carry = 2 ** (8 * r.randrange(1, 16)) - r.randrange(1, 4)
+    count = r.choice((1, carry, r.randrange(1, 2**20), r.randrange(1, 2**128)))
+    state = State(r.randbytes(32), count, tuple(any_pool(r) for _ in range(POOLS)), 0, 0, False)
+    if r.random() < 0.3:
+        return state
+    return state._replace(last_reseed=r.getrandbits(32), reseed_count=r.getrandbits(32), reseeded=True)
+
+
+def any_clock(r, state):
+    waits = (0, 99, 100, 101, 102, 2**32 - 5, r.getrandbits(32))
+    return (state.last_reseed + r.choice(waits)) % 2**32
+
+
+def any_case(r, kind):
+    state = any_state(r)
+    if kind == "event":
+        data = r.randbytes(r.choice((1, 32, r.randrange(1, 33))))
+        return Case(kind, state, 0, r.choice((0, 255, r.randrange(256))), r.choice((0, 31, r.randrange(32))), data)
+    sizes = (0, 1, 15, 16, 17, 32, 64, r.randrange(200))
+    size = r.choice(sizes) if kind == "request" else SEED_SIZE
+    return Case(kind, state, any_clock(r, state), buffer=r.randbytes(size))
+
+
+# ---- twists: each brings a case to the boundary of a number
+
+
+def bad_source(r, case):
+    case.source = r.choice((256, 2**32 - 1, r.randrange(256, 2**32)))
+
+
+def bad_pool(r, case):
+    case.pool = r.choice((32, 2**32 - 1, r.randrange(32, 2**32)))
+
+
+def bad_data(r, case):
+    case.buffer = r.randbytes(r.choice((0, 33, 64, 300)))
+
+
+def bad_request(r, case):
+    case.buffer = r.randbytes(MAX_REQUEST + r.choice((1, 1, 16)))
+
+
+def bad_seed(r, case):
+    case.buffer = r.randbytes(r.choice((0, 32, 63, 65, 128)))
+
+
+def pool_too_long(r, case):
+    length = 2**61 + r.choice((0, 1, 63, r.randrange(2**61), 2**63 - 2**61, 2**64 - 1 - 2**61))
+    case.set_pool(r.randrange(POOLS), pool_of(r, length))
+
+
+def dirty_tail(r, case):
+    i = r.randrange(POOLS)
+    pool = case.state.pools[i]
+    start = pool.length % 64
+    tail = bytearray(pool.tail)
+    tail[r.choice((start, 63, r.randrange(start, 64)))] = 1 << r.randrange(8)
+    case.set_pool(i, pool._replace(tail=bytes(tail)))
+
+
+def stray_chain(r, case):
+    chain = list(EMPTY.chain)
+    chain[r.randrange(8)] ^= 1 << r.randrange(32)
+    pool = pool_of(r, r.choice((0, 63, r.randrange(64))))
+    case.set_pool(r.randrange(POOLS), pool._replace(chain=tuple(chain)))
+
+
+def unseeded(r, case):
+    case.change(key=bytes(32), count=0, last_reseed=0, reseed_count=0, reseeded=False)
+    case.set_pool(0, pool_of(r, r.choice((0, 63, 64, 65))))
+    case.clock = r.choice((0, 100, 101, r.getrandbits(32)))
+
+
+def key_without_counter(r, case):
+    unseeded(r, case)
+    key = bytearray(32)
+    key[r.choice((0, 31, r.randrange(32)))] = 1 << r.randrange(8)
+    case.change(key=bytes(key))
+
+
+def flag_without_counter(r, case):
+    unseeded(r, case)
+    case.change(reseeded=True, last_reseed=r.getrandbits(32), reseed_count=r.getrandbits(32))
+
+
+def timer_without_flag(r, case):
+    stray = 1 << r.randrange(32)
+    mark, number = r.choice(((stray, 0), (0, stray), (stray, r.getrandbits(32))))
+    case.change(last_reseed=mark, reseed_count=number, reseeded=False)
+
+
+def rubbish(r, case):
+    pools = tuple(
+        Pool(tuple(r.getrandbits(32) for _ in range(8)), r.randbytes(64), r.getrandbits(64)) for _ in range(POOLS)
+    )
+    case.state = State(
+        r.randbytes(32), r.getrandbits(128), pools, r.getrandbits(32), r.getrandbits(32), r.random() < 0.5
+    )
+
+
+def little_room(r, case):
+    if case.pool < POOLS:
+        length = MAX_POOL - 2 - len(case.buffer) + r.choice((-1, 0, 1, 2))
+        case.set_pool(case.pool, pool_of(r, length))
+
+
+def nearly_due(r, case):
+    """Also after 2^32 reseeds, where the number kept is 0 and the flag alone says that there were any."""
+    case.set_pool(0, pool_of(r, r.choice((62, 63, 64, 65))))
+    case.change(reseed_count=r.choice((0, case.state.reseed_count)))
+    case.clock = any_clock(r, case.state)
+
+
+def much_used(r, case):
+    """A due reseed whose number has any count of zeros at its end."""
+    number = (r.randrange(2**32) * 2 + 1) << r.randrange(33)
+    case.change(last_reseed=r.getrandbits(32), reseed_count=(number - 1) % 2**32, reseeded=True)
+    case.set_pool(0, pool_of(r, r.choice((64, r.randrange(64, 300)))))
+    case.clock = (case.state.last_reseed + r.choice((101, r.randrange(101, 2**32)))) % 2**32
+
+
+def counter_at_end(r, case):
+    count = MAX_COUNT - case.growth() + r.choice((-1, 0, 1, 2))
+    case.change(count=min(count, MAX_COUNT))
+
+
+def as_it_is(r, case):
+    pass
+
+
+POOL_CLAUSES = [pool_too_long, dirty_tail, stray_chain]
+MALFORMED = POOL_CLAUSES + [key_without_counter, flag_without_counter, timer_without_flag, rubbish]
+OUTPUT = [unseeded, nearly_due, much_used, counter_at_end]
+TWISTS = {
+    "event": [as_it_is, bad_source, bad_pool, bad_data, little_room, unseeded] + MALFORMED,
+    "request": [as_it_is, bad_request] + MALFORMED + OUTPUT,
+    "update": [as_it_is, bad_seed] + MALFORMED + OUTPUT,
+    "write": [as_it_is, bad_seed] + MALFORMED + OUTPUT,
+}
+
+
+def fixed_cases(r):
+    for kind in KINDS:
+        yield Case(kind, FRESH, buffer=bytes(SEED_SIZE if kind in ("update", "write") else 16))
+    largest = Case("request", any_state(r), buffer=bytes(MAX_REQUEST))
+    yield largest
+    for beyond in (0, 1):
+        largest.change(count=MAX_COUNT - largest.growth() + beyond)
+        yield largest
+
+
+def cases(r):
+    """Without end: each twist of each call in turn, every fourth with another twist on top."""
+    yield from fixed_cases(r)
+    while True:
+        for kind in KINDS:
+            for twist in TWISTS[kind]:
+                case = any_case(r, kind)
+                twist(r, case)
+                if r.random() < 0.25:
+                    r.choice(TWISTS[kind])(r, case)
+                yield case
+
+
+# ---- comparing and counting
+
+
+class Tally:
+    def __init__(self):
+        self.numbers = {kind: Counter() for kind in KINDS}
+        self.clauses = Counter({name: 0 for name in station.CLAUSES})
+        self.emptied = Counter()
+
+    def note(self, case, outcome):
+        self.numbers[case.kind][outcome.number] += 1
+        if case.kind != "event" and outcome.number == 0:
+            self.emptied[outcome.emptied] += 1
+        broken = station.clauses(case.state) if outcome.number == 21 else []
+        if len(broken) == 1:
+            self.clauses[broken[0]] += 1
+
+    def calls(self):
+        return sum(sum(counts.values()) for counts in self.numbers.values())
+
+    def missing(self):
+        for kind in KINDS:
+            yield from (f"{kind} {n}" for n in NUMBERS[kind] if not self.numbers[kind][n])
+        yield from (f"21 by its clause '{name}' alone" for name, n in self.clauses.items() if n == 0)
+
+    def show(self):
+        for kind in KINDS:
+            counts = "  ".join(f"{n:02}: {self.numbers[kind][n]}" for n in NUMBERS[kind])
+            print(f"{kind:8} {counts}")
+        print("21 by one clause alone:", ", ".join(f"{name} {n}" for name, n in self.clauses.items()))
+        print("pools emptied:", "  ".join(f"{k}: {n}" for k, n in sorted(self.emptied.items())))
+
+
+def ask(program, line):
+    program.stdin.write(line + "\n")
+    program.stdin.flush()
+    return program.stdout.readline().rstrip("\n")
+
+
+def compare(program, r, seconds, tally):
+    """The first difference, or nothing."""
+    end = time.monotonic() + seconds
+    for case in cases(r):
+        line, outcome = question(case), case.expected()
+        found = ask(program, line)
+        if found != answer(outcome):
+            return f"line:     {line}\nexpected: {answer(outcome)}\nfound:    {found}"
+        tally.note(case, outcome)
+        if time.monotonic() > end:
+            return None
+
+
+def main():
+    parser = argparse.ArgumentParser(description=__doc__, formatter_class=argparse.RawDescriptionHelpFormatter)
+    parser.add_argument("program")
+    parser.add_argument("--seconds", type=float, default=20)
+    parser.add_argument("--seed", type=int, default=1)
+    args = parser.parse_args()
+    tally = Tally()
+    with subprocess.Popen([args.program], stdin=subprocess.PIPE, stdout=subprocess.PIPE, text=True) as program:
+        difference = compare(program, random.Random(args.seed), args.seconds, tally)
+        program.stdin.close()
+    if difference:
+        sys.exit(f"{difference}\nstates_fuzz: the library and tests/station.py differ (seed {args.seed})")
+    tally.show()
+    missing = list(tally.missing())
+    if missing:
+        sys.exit(f"states_fuzz: never occurred: {', '.join(missing)}")
+    print(f"states_fuzz: {tally.calls()} calls on single states agree (seed {args.seed})")
+
+
+if __name__ == "__main__":
+    main()

@@ -1,0 +1,145 @@
+"""The station of 01 on an explicit state: event, request, seed update and seed write, from any state whatever.
+
+A call gives its number (0 or the refusal), the pools emptied, what the buffer or the event's data then hold, and the
+next state. A pool is its running hash, tail and length, so that a state whose earlier bytes nobody knows will do."""
+import hashlib
+from collections import namedtuple
+
+import generator
+from sha256 import INITIAL, compress, finish
+
+Pool = namedtuple("Pool", "chain tail length")
+State = namedtuple("State", "key count pools last_reseed reseed_count reseeded")
+Outcome = namedtuple("Outcome", "number emptied buffer next")
+
+POOLS = 32
+SEED_SIZE = 64
+MAX_POOL = 2**61 - 1
+EMPTY = Pool(tuple(INITIAL), bytes(64), 0)
+FRESH = State(bytes(32), 0, (EMPTY,) * POOLS, 0, 0, False)
+
+assert finish(INITIAL, b"abc", 3) == hashlib.sha256(b"abc").digest()
+
+
+# ---- pools
+
+
+def absorb(pool, data):
+    waiting = pool.tail[: pool.length % 64] + data
+    chain = pool.chain
+    while len(waiting) >= 64:
+        chain = compress(chain, waiting[:64])
+        waiting = waiting[64:]
+    return Pool(tuple(chain), waiting.ljust(64, b"\0"), pool.length + len(data))
+
+
+def pool_digest(pool):
+    """D of all that the pool gained."""
+    first = finish(pool.chain, pool.tail[: pool.length % 64], pool.length)
+    return hashlib.sha256(first).digest()
+
+
+# ---- 21, clause by clause
+
+CLAUSES = {
+    "pool length": lambda s: any(p.length > MAX_POOL for p in s.pools),
+    "bytes after a tail": lambda s: any(any(p.tail[p.length % 64 :]) for p in s.pools),
+    "running hash": lambda s: any(p.length < 64 and p.chain != EMPTY.chain for p in s.pools),
+    "K without C": lambda s: s.count == 0 and any(s.key),
+    "flag without C": lambda s: s.count == 0 and s.reseeded,
+    "mark or number without flag": lambda s: not s.reseeded and (s.last_reseed, s.reseed_count) != (0, 0),
+}
+
+
+def clauses(state):
+    return [name for name, holds in CLAUSES.items() if holds(state)]
+
+
+# ---- the timer and the generator below
+
+
+def due(state, clock):
+    elapsed = (clock - state.last_reseed) % 2**32
+    return state.pools[0].length >= 64 and (not state.reseeded or elapsed > 100)
+
+
+def done(answer):
+    """The generator's next state; the refusals of 01 are looked at before, so it refuses nothing here."""
+    number, after = answer
+    assert number == 0
+    return after
+
+
+def reseed(state, seed):
+    after = done(generator.reseed(generator.State(state.key, state.count), seed))
+    return state._replace(key=after.key, count=after.count)
+
+
+def pool_reseed(state, clock):
+    number = (state.reseed_count + 1) % 2**32
+    used = [i for i in range(POOLS) if number % 2**i == 0]
+    reseeded = reseed(state, b"".join(pool_digest(state.pools[i]) for i in used))
+    pools = tuple(EMPTY if i in used else p for i, p in enumerate(state.pools))
+    return len(used), reseeded._replace(pools=pools, last_reseed=clock, reseed_count=number, reseeded=True)
+
+
+def random_data(state, clock, size):
+    emptied = 0
+    if due(state, clock):
+        emptied, state = pool_reseed(state, clock)
+    buffer = bytearray(size)
+    after = done(generator.request(generator.State(state.key, state.count), buffer))
+    return Outcome(0, emptied, bytes(buffer), state._replace(key=after.key, count=after.count))
+
+
+def output_refusal(state, clock, blocks):
+    """21, 23 or 24 of a request that makes so many blocks."""
+    if clauses(state):
+        return 21
+    if state.count == 0 and not due(state, clock):
+        return 23
+    return counter_refusal(state, clock, blocks)
+
+
+def counter_refusal(state, clock, growth):
+    return 24 if state.count + due(state, clock) + growth > generator.MAX_COUNT else 0
+
+
+# ---- the calls
+
+
+def event_refusal(state, source, pool, data):
+    if source > 255:
+        return 11
+    if pool >= POOLS:
+        return 12
+    if not 1 <= len(data) <= 32:
+        return 13
+    if clauses(state):
+        return 21
+    return 22 if state.pools[pool].length + 2 + len(data) > MAX_POOL else 0
+
+
+def event(state, source, pool, data):
+    refusal = event_refusal(state, source, pool, data)
+    if refusal:
+        return Outcome(refusal, 0, data, state)
+    pools = list(state.pools)
+    pools[pool] = absorb(pools[pool], bytes([source, len(data)]) + data)
+    return Outcome(0, 0, data, state._replace(pools=tuple(pools)))
+
+
+def request(state, clock, buffer):
+    size = len(buffer)
+    refusal = 14 if size > generator.MAX_REQUEST else output_refusal(state, clock, generator.block_count(size) + 2)
+    return Outcome(refusal, 0, buffer, state) if refusal else random_data(state, clock, size)
+
+
+def update(state, clock, seed):
+    refusal = 15 if len(seed) != SEED_SIZE else 21 if clauses(state) else counter_refusal(state, clock, 7)
+    return Outcome(refusal, 0, seed, state) if refusal else random_data(reseed(state, seed), clock, SEED_SIZE)
+
+
+def write(state, clock, seed):
+    refusal = 15 if len(seed) != SEED_SIZE else output_refusal(state, clock, 6)
+    return Outcome(refusal, 0, seed, state) if refusal else random_data(state, clock, SEED_SIZE)
