@@ -1,0 +1,13 @@
+pub mod Model
+pub mod Hexadecimal
+pub mod Frames
+pub mod Texts
+pub mod Buffers
+pub mod Lines
+pub mod Printing
+pub mod Executed
+pub mod Sessions
+pub mod Steps
+pub mod Logs
+pub mod Numbers
+pub mod Examples
