@@ -14,7 +14,7 @@ use Rattle.pools.specs.Promises.{number, Gives, GivesBytes}
 use Rattle.pools.specs.declared.Fortuna.{Fortuna}
 use Rattle.pools.specs.declared.Outcome.{Outcome}
 use Rattle.bench.specs.Hexadecimal.{decimal}
-use Rattle.bench.specs.Lines.{noFrame, numberLine, spaced, outputLine, answerLine, outcomeLine, LineEffect, executed, Prints}
+use Rattle.bench.specs.Lines.{space, lineFeed, noFrame, numberLine, spaced, outputLine, answerLine, outcomeLine, LineEffect, executed, Prints}
 use Rattle.bench.proofs.Hexadecimal.{length-encode}
 use Rattle.bench.proofs.Numbers.{step-emptied-few, pools-small}
 use Rattle.bench.proofs.Printing.{Shown}
@@ -40,7 +40,7 @@ length-output : (n emptied : ℕ) (bytes : List ℕ) → length (outputLine n em
 unfolding outputLine numberLine decimal
 length-output n emptied bytes = go (eqb n 0)
   where
-    go : (t : Bool) → length (cond t (decimal n ++ (32 ∷ []) ++ decimal emptied ++ spaced bytes ++ (10 ∷ [])) (numberLine n)) ≤ 7 + 2 * length bytes
+    go : (t : Bool) → length (cond t (decimal n ++ (space ∷ []) ++ decimal emptied ++ spaced bytes ++ (lineFeed ∷ [])) (numberLine n)) ≤ 7 + 2 * length bytes
     go true = rw length-append (omega (arith, length-spaced bytes))
     go false = omega arith
 

@@ -3,10 +3,10 @@
 use mathlib.Core.Path.{_≡_}
 use mathlib.Core.Bool.{Bool, true, false, cond, not, _||_}
 use mathlib.Core.List.{List, [], _∷_}
-use Prim.Native.Nat.{ℕ, zero, suc, _+_, _-_, _/_, _%_, _≤_, _<_, zero-le}
+use Prim.Native.Nat.{ℕ, zero, suc, _+_, _-_, _*_, _/_, _%_, _≤_, _<_, zero-le}
 use native.Mathlib.Omega.{arith}
 use lib.Dec.{eqb, ltb, lit≤}
-use lib.ListN.{length, length-append}
+use lib.ListN.{length, getD, length-append}
 use borrow.Author.Tests.{le-leb}
 use Rattle.laws.specs.Refusals.{refuse}
 use Rattle.generator.specs.Refusals.{maxRequest}
@@ -21,7 +21,7 @@ use Rattle.pools.specs.Promises.{number}
 use Rattle.pools.specs.declared.Fortuna.{Fortuna}
 use Rattle.pools.specs.declared.answer.Answer.{Answer}
 use Rattle.pools.specs.declared.answer.Answer.the-variants.{Done, SourceOutOfRange, PoolOutOfRange, DataLength, RequestTooLong, SeedSize, Malformed, PoolFull, Unseeded, CounterSpent}
-use Rattle.bench.specs.Hexadecimal.{isDecimal, isDigit, allDigits, decimal}
+use Rattle.bench.specs.Hexadecimal.{isDecimal, isDigit, digitValue, allDigits, decimal}
 use Rattle.bench.specs.Statements.{TwoDigits}
 
 -- ---- numbers
@@ -135,6 +135,18 @@ decimal-digits : (n : ℕ) → n ≤ 99 → allDigits (decimal n) ≡ true
 unfolding allDigits decimal
 decimal-digits n h = rw (digit-below (n / 10) (omega arith), digit-below (n % 10) (omega arith))
 
+value-below : (n : ℕ) → n < 10 → digitValue (48 + n) ≡ n
+unfolding digitValue isDecimal
+value-below n h =
+    let e : 48 + n - 48 ≡ n = omega arith in
+    rw (le-leb 48 (48 + n) (omega arith), le-leb (48 + n) 57 (omega arith)) e
+
+decimal-value : (n : ℕ) → n ≤ 99 → 10 * digitValue (getD (decimal n) 0 0) + digitValue (getD (decimal n) 1 0) ≡ n
+unfolding decimal
+decimal-value n h =
+    let e : 10 * (n / 10) + n % 10 ≡ n = omega arith in
+    rw (value-below (n / 10) (omega arith), value-below (n % 10) (omega arith)) e
+
 pub two-digits : TwoDigits
 two-digits =
     record {
@@ -142,4 +154,5 @@ two-digits =
       emptied = step-emptied-few;
       pools = pools-small;
       digits = decimal-digits;
+      value = decimal-value;
     }

@@ -119,6 +119,7 @@ start = record { state = fresh; text = zeros lineBuffer; held = 0 }
 
 -- ---- what the code promises
 
+-- a session by its parts
 abbrev pub session : Fortuna → List ℕ → ℕ → Session
 session s text held = record { state = s; text = text; held = held }
 

@@ -34,6 +34,7 @@ lineCall text = callOf (frameOfText text) (decodeHex text)
 
 -- ---- what is printed
 
+-- the characters between the parts of a line and at its end
 abbrev pub space : ℕ
 space = 32
 

@@ -16,7 +16,7 @@ struct Session {
     on: bool,
 }
 
-// Writes the first characters of out to standard output, and returns whether that worked.
+// Writes the first characters of out to standard output, and returns whether that worked; where it did not, standard error is told.
 fn show(out: &[u8], written: usize) -> bool {
     if written <= out.len() {
         if io::write_all(STDOUT_FILENO, &out[..written]) {

@@ -2,12 +2,13 @@
 -- Assumes nothing.
 use mathlib.Core.Path.{_≡_, sym, ap, _∙_}
 use mathlib.Core.Bool.{true, false}
-use Prim.Native.Nat.{_/_}
+use Prim.Native.Nat.{_/_, _≤_, _<_}
 use native.Mathlib.Omega.{arith}
 use lib.ListN.{length, take}
 use borrow.Author.Needs.{needs}
 use borrow.Author.Tests.{not-true, not-false}
 use Rattle.bench.specs.Hexadecimal.{isHex}
+use Rattle.bench.specs.Frames.{maxLine}
 use Rattle.bench.proofs.Hexadecimal.{length-decode, decoded-front}
 use Rattle.bench.proofs.Texts.{long-line, other-line, hex-line}
 use Rattle.bench.proofs.line.line.Statement.{statement}
@@ -17,7 +18,10 @@ invalid-line-requires : tie.Need-invalid-line-requires
 invalid-line-requires c κs = search needs
 
 returns : tie.Need-returns
-returns c = rw (long-line _ _ (c .before .before .if1 .taken)) (c .invalid-line .ensures)
+returns c =
+    let a = c .before .before .before .before .args in
+    let long : maxLine < length (a .text .now) = omega arith in
+    rw (long-line (a .state) (a .text .now) long) (c .invalid-line .ensures)
 
 is-hex-requires : tie.Need-is-hex-requires
 is-hex-requires c κs = search needs
@@ -59,7 +63,8 @@ returns-3 c =
     let t = a .text .now in
     let f : isHex t ≡ true = sym (c .before .before .before .before .before .before .before .before .is-hex .ensures) ∙ not-false _ (c .before .before .before .before .before .before .before .if2 .left) in
     let e = decoded-front t (c .before .before .before .before .before .decode .last .1 .0) _ (c .before .before .before .before .before .decode .ensures) in
-    rw (hex-line (a .state) t (c .before .before .before .before .before .before .before .before .before .if1 .left) f) (rw e at (c .before .execute .ensures))
+    let short : length t ≤ maxLine = omega (arith, c .before .before .before .before .before .before .before .before .before .if1 .left) in
+    rw (hex-line (a .state) t short f) (rw e at (c .before .execute .ensures))
 
 pub line-spec : {M : Type 1} → statement M
 line-spec =
