@@ -11,24 +11,24 @@ bool call_new(void) {
 }
 
 bool call_event(uint32_t pool, const uint8_t data[32]) {
-    return fortuna_event_at(&state, 0, pool, data, 32) == FORTUNA_DONE;
+    return fortuna_event(&state, 0, pool, data, 32) == FORTUNA_DONE;
 }
 
 /* Pool 0 has its 64 bytes, so a request makes the first reseed; later ones at the same reading make none. */
 bool call_reseed(void) {
-    uint32_t emptied;
     uint8_t none;
-    return fortuna_request_at(&state, CLOCK, &none, 0, &emptied) == FORTUNA_DONE && emptied == 1;
+    fortuna_answer a = fortuna_request(&state, CLOCK, &none, 0);
+    return a.number == FORTUNA_DONE && a.emptied == 1;
 }
 
 bool call_request(uint8_t *out, size_t length) {
-    uint32_t emptied;
-    return fortuna_request_at(&state, CLOCK, out, length, &emptied) == FORTUNA_DONE && emptied == 0;
+    fortuna_answer a = fortuna_request(&state, CLOCK, out, length);
+    return a.number == FORTUNA_DONE && a.emptied == 0;
 }
 
 bool call_update(uint8_t seed[64]) {
-    uint32_t emptied;
-    return fortuna_update_at(&state, CLOCK, seed, 64, &emptied) == FORTUNA_DONE && emptied == 0;
+    fortuna_answer a = fortuna_update(&state, CLOCK, seed, 64);
+    return a.number == FORTUNA_DONE && a.emptied == 0;
 }
 
 void pool_sum(uint32_t sum[8]) {

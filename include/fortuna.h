@@ -5,7 +5,7 @@
    and none allocates, keeps a pointer, or reads or changes anything but what it is lent.
 
    Numbers returned: FORTUNA_DONE, or the number of a refusal, the first in the order of the list below where more than
-   one applies. After a refusal the buffers are as before, and so is the state that comes back; pools emptied are 0.
+   one applies. After a refusal buffers and state are as before; pools emptied are 0.
    No call is refused for another reason. */
 #ifndef FORTUNA_H
 #define FORTUNA_H
@@ -140,34 +140,34 @@ typedef struct {
     bool reseeded;
 } fortuna_state;
 
-/* The number, how many pools were emptied, 0 without a pool reseed, and the state that follows. After FORTUNA_DONE only
-   the latter is to be used: the state that was passed would give the same bytes again. */
+/* The number, and how many pools were emptied, 0 without a pool reseed. */
 typedef struct {
     uint32_t number;
     uint32_t emptied;
-    fortuna_state next;
-} fortuna_outcome;
+} fortuna_answer;
 
 /* The state before anything: unseeded, with empty pools. */
 fortuna_state fortuna_new(void);
 
+/* The calls below work on the state that the caller keeps at state, which no buffer may overlap. */
+
 /* The pool gains the source's byte, the length's byte and the length bytes at data. No pool is emptied.
    FORTUNA_DONE, FORTUNA_BAD_SOURCE, FORTUNA_BAD_POOL, FORTUNA_BAD_DATA, FORTUNA_MALFORMED or FORTUNA_POOL_FULL. */
-fortuna_outcome fortuna_event(fortuna_state state, uint32_t source, uint32_t pool, const uint8_t *data, size_t length);
+uint32_t fortuna_event(fortuna_state *state, uint32_t source, uint32_t pool, const uint8_t *data, size_t length);
 
 /* Fills the length bytes at out. clock counts milliseconds and may wrap. A pool reseed is made first if one is due:
    pool 0 holds 64 bytes or more, and none was ever made or clock - last_reseed, modulo 2^32, is more than 100.
    FORTUNA_DONE, FORTUNA_REQUEST_TOO_LONG, FORTUNA_MALFORMED, FORTUNA_UNSEEDED or FORTUNA_COUNTER_SPENT. */
-fortuna_outcome fortuna_request(fortuna_state state, uint32_t clock, uint8_t *out, size_t length);
+fortuna_answer fortuna_request(fortuna_state *state, uint32_t clock, uint8_t *out, size_t length);
 
 /* The 64 bytes at seed reseed the generator; then a request for 64 bytes overwrites them with the seed of the next
    start. Store that before any byte is drawn: after a power loss the old seed would give the same bytes again.
    FORTUNA_DONE, FORTUNA_BAD_SEED, FORTUNA_MALFORMED or FORTUNA_COUNTER_SPENT. */
-fortuna_outcome fortuna_update(fortuna_state state, uint32_t clock, uint8_t *seed, size_t length);
+fortuna_answer fortuna_update(fortuna_state *state, uint32_t clock, uint8_t *seed, size_t length);
 
 /* A request for 64 bytes overwrites the 64 bytes at seed, for the next start.
    FORTUNA_DONE, FORTUNA_BAD_SEED, FORTUNA_MALFORMED, FORTUNA_UNSEEDED or FORTUNA_COUNTER_SPENT. */
-fortuna_outcome fortuna_write(fortuna_state state, uint32_t clock, uint8_t *seed, size_t length);
+fortuna_answer fortuna_write(fortuna_state *state, uint32_t clock, uint8_t *seed, size_t length);
 
 /* Runs a log of calls from the state before anything. The log is length characters, a frame to a line, in capital
    hexadecimal, at most 256 characters: 01 and source, pool, data for an event; 02 and clock, n for a request of n
@@ -176,46 +176,6 @@ fortuna_outcome fortuna_write(fortuna_state state, uint32_t clock, uint8_t *seed
    after 00 for 02, 03 and 04 a space and the pools emptied in two decimal digits, then, unless n = 0, a space and the
    bytes in capital hexadecimal. Stores as many characters as there is room for, and returns how many. */
 size_t fortuna_log(const uint8_t *log, size_t length, uint8_t *out, size_t room);
-
-/* The same on a state that the caller keeps at f, which no buffer may overlap. How many pools were emptied is stored at
-   emptied, unless that is NULL; an event empties none. */
-static inline uint32_t fortuna_event_at(
-    fortuna_state *f, uint32_t source, uint32_t pool, const uint8_t *data, size_t length)
-{
-    fortuna_outcome o = fortuna_event(*f, source, pool, data, length);
-    *f = o.next;
-    return o.number;
-}
-
-static inline uint32_t fortuna_request_at(
-    fortuna_state *f, uint32_t clock, uint8_t *out, size_t length, uint32_t *emptied)
-{
-    fortuna_outcome o = fortuna_request(*f, clock, out, length);
-    *f = o.next;
-    if (emptied)
-        *emptied = o.emptied;
-    return o.number;
-}
-
-static inline uint32_t fortuna_update_at(
-    fortuna_state *f, uint32_t clock, uint8_t *seed, size_t length, uint32_t *emptied)
-{
-    fortuna_outcome o = fortuna_update(*f, clock, seed, length);
-    *f = o.next;
-    if (emptied)
-        *emptied = o.emptied;
-    return o.number;
-}
-
-static inline uint32_t fortuna_write_at(
-    fortuna_state *f, uint32_t clock, uint8_t *seed, size_t length, uint32_t *emptied)
-{
-    fortuna_outcome o = fortuna_write(*f, clock, seed, length);
-    *f = o.next;
-    if (emptied)
-        *emptied = o.emptied;
-    return o.number;
-}
 
 #ifdef __cplusplus
 }

@@ -66,7 +66,7 @@ static void gather_noise(fortuna_state *f)
     for (uint32_t turn = 0; turn < TURNS; turn++)
         for (uint32_t source = 0; source < SOURCES; source++) {
             sample(source, turn, data);
-            must("event", fortuna_event_at(f, source, turn % POOLS, data, sizeof data));
+            must("event", fortuna_event(f, source, turn % POOLS, data, sizeof data));
         }
     printf("%d events taken\n", SOURCES * TURNS);
 }
@@ -75,13 +75,12 @@ static void gather_noise(fortuna_state *f)
 static void draw_key(fortuna_state *f, uint32_t clock)
 {
     uint8_t key[KEY];
-    uint32_t emptied;
-    uint32_t number = fortuna_request_at(f, clock, key, sizeof key, &emptied);
-    if (number != FORTUNA_DONE) {
-        printf("key at %u ms: refused, %u (%s)\n", clock, number, reason(number));
+    fortuna_answer a = fortuna_request(f, clock, key, sizeof key);
+    if (a.number != FORTUNA_DONE) {
+        printf("key at %u ms: refused, %u (%s)\n", clock, a.number, reason(a.number));
         return;
     }
-    printf("key at %u ms, pools emptied %u: ", clock, emptied);
+    printf("key at %u ms, pools emptied %u: ", clock, a.emptied);
     print_bytes(key, sizeof key);
 }
 
@@ -90,7 +89,7 @@ static void misplace_event(fortuna_state *f)
 {
     uint8_t data[DATA];
     sample(0, 0, data);
-    uint32_t number = fortuna_event_at(f, 0, POOLS, data, sizeof data);
+    uint32_t number = fortuna_event(f, 0, POOLS, data, sizeof data);
     if (number != FORTUNA_DONE)
         printf("event for pool %d: refused, %u (%s)\n", POOLS, number, reason(number));
 }
@@ -100,7 +99,7 @@ int main(void)
     fortuna_state f = fortuna_new();
 
     draw_key(&f, 0);
-    must("seed update", fortuna_update_at(&f, 10, flash, sizeof flash, NULL));
+    must("seed update", fortuna_update(&f, 10, flash, sizeof flash).number);
     printf("seed updated: ");
     print_bytes(flash, sizeof flash);
 
@@ -109,7 +108,7 @@ int main(void)
     draw_key(&f, 1050);
     misplace_event(&f);
 
-    must("seed write", fortuna_write_at(&f, 2000, flash, sizeof flash, NULL));
+    must("seed write", fortuna_write(&f, 2000, flash, sizeof flash).number);
     printf("seed for the next start: ");
     print_bytes(flash, sizeof flash);
     return 0;

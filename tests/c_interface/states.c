@@ -116,12 +116,12 @@ static void check_guards(const uint8_t *area, size_t length)
             stop("a call wrote outside its buffer");
 }
 
-static fortuna_outcome call(
-    uint8_t kind, fortuna_state state, const uint32_t arguments[2], uint8_t *buffer, size_t length)
+static fortuna_answer call(
+    uint8_t kind, fortuna_state *state, const uint32_t arguments[2], uint8_t *buffer, size_t length)
 {
     switch (kind) {
     case EVENT:
-        return fortuna_event(state, arguments[0], arguments[1], buffer, length);
+        return (fortuna_answer){fortuna_event(state, arguments[0], arguments[1], buffer, length), 0};
     case REQUEST:
         return fortuna_request(state, arguments[0], buffer, length);
     case UPDATE:
@@ -146,12 +146,12 @@ static void answer(reader r)
         stop("no memory");
     memset(area, GUARD_BYTE, length + 2 * GUARD);
     take(&r, area + GUARD, length);
-    fortuna_outcome o = call(kind, state, arguments, area + GUARD, length);
+    fortuna_answer a = call(kind, &state, arguments, area + GUARD, length);
     check_guards(area, length);
-    printf("%u %u ", o.number, o.emptied);
+    printf("%u %u ", a.number, a.emptied);
     print_bytes(area + GUARD, length);
     printf(" ");
-    print_state(&o.next);
+    print_state(&state);
     free(area);
 }
 

@@ -1,16 +1,23 @@
--- What a call gives to C: the outcome of its step.
+-- What a call leaves with C: the outcome of its step.
 -- Assumes nothing.
 use mathlib.Core.Path.{_≡_}
 use mathlib.Core.List.{List}
-use Prim.Native.Nat.{ℕ}
+use Prim.Native.Nat.{ℕ, _<_}
+use Rattle.pools.specs.Promises.{number}
+use Rattle.pools.specs.Effects.{withPool}
 use Rattle.pools.specs.Calls.{Outcome}
 use Rattle.pools.specs.declared.Fortuna.{Fortuna}
-use Rattle.fortuna_c.specs.declared.station.FortunaOutcome.{FortunaOutcome}
+use Rattle.fortuna_c.specs.declared.station.FortunaAnswer.{FortunaAnswer}
+use Rattle.fortuna_c.specs.declared.station.Gain.{Gain}
 
--- its number, the pools emptied, and the next state
-abbrev pub Gives : Outcome Fortuna → FortunaOutcome → Type 0
-Gives o r = (r .number ≡ o .number) × (r .emptied ≡ o .effect .emptied) × (r .next ≡ o .effect .next)
+-- its number, and the next state
+abbrev pub Leaves : Outcome Fortuna → ℕ → Fortuna → Type 0
+Leaves o n s = (n ≡ o .number) × (s ≡ o .effect .next)
 
--- and the lent buffer holds what it says
-abbrev pub GivesBytes : Outcome Fortuna → FortunaOutcome → List ℕ → Type 0
-GivesBytes o r out = Gives o r × (out ≡ o .effect .buffer)
+-- also the pools emptied, and what the lent buffer then holds
+abbrev pub LeavesBytes : Outcome Fortuna → FortunaAnswer → Fortuna → List ℕ → Type 0
+LeavesBytes o r s buffer = Leaves o (r .number) s × (r .emptied ≡ o .effect .emptied) × (buffer ≡ o .effect .buffer)
+
+-- its number, and one pool by which the next state differs from s
+abbrev pub Gains : Outcome Fortuna → Fortuna → Gain → Type 0
+Gains o s g = (number (g .answer) ≡ o .number) × (g .place < 32) × (withPool s (g .place) (g .pool) ≡ o .effect .next)

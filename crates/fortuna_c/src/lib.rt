@@ -15,7 +15,7 @@ pub use fortuna_generator::fortuna_generator_request;
 pub use fortuna_generator::fortuna_generator_reseed;
 pub use sha256::fortuna_double_sha256;
 pub use sha256::fortuna_sha256;
-pub use station::FortunaOutcome;
+pub use station::FortunaAnswer;
 pub use station::fortuna_event;
 pub use station::fortuna_new;
 pub use station::fortuna_request;

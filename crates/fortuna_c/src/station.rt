@@ -1,16 +1,69 @@
-// The four calls. The state is passed by value, and the next one comes back in the outcome. No helper turns the outcome
-// into C's: a state is 3.4 KB, and each function that it passes through costs a copy.
-ghost use mathlib.Core.Path.{_≡_};
-ghost use Rattle.pools.specs.State.{fresh};
-ghost use Rattle.pools.specs.Calls.{event, request, update, write, step};
-ghost use Rattle.fortuna_c.specs.Outcomes.{Gives, GivesBytes};
+// The four calls, on a state that the caller lends. A state is 3.4 KB, and each copy of it costs some 370 instructions.
+use hash::Hasher;
+use pools::Answer;
 use pools::Fortuna;
+use pools::Outcome;
+ghost use mathlib.Core.Path.{_≡_};
+ghost use Prim.Native.Nat.{_<_};
+ghost use Rattle.pools.specs.Promises.{number};
+ghost use Rattle.pools.specs.State.{fresh};
+ghost use Rattle.pools.specs.Effects.{withPool};
+ghost use Rattle.pools.specs.Calls.{event, request, update, write, step};
+ghost use Rattle.fortuna_c.specs.Outcomes.{Gains, Leaves, LeavesBytes};
 
+// The refusal's number, or 0, and how many pools were emptied.
 #[repr(C)]
-pub struct FortunaOutcome {
+pub struct FortunaAnswer {
     pub number: u32,
     pub emptied: u32,
-    pub next: Fortuna,
+}
+
+// What an event comes to: its answer, and the one pool to store.
+struct Gain {
+    answer: Answer,
+    place: usize,
+    pool: Hasher,
+}
+
+// The event on a copy of the state. Where it is refused, the pool is the one that stands at the place.
+fn gain_of(state: Fortuna, source: u32, pool: u32, data: &[u8]) -> Gain
+    ensures { λ r. ⌜ Gains (step state (event source pool (now («data» .entry)))) state r ⌝ }
+{
+    let o = state.add_event(source, pool, data);
+    let answer = o.answer;
+    let next = o.next;
+    let place = (pool % 32) as usize;
+    let held = next.pools[place];
+    Gain {
+        answer: answer,
+        place: place,
+        pool: held,
+    }
+}
+
+// Not taken in gain_of: the compiler would then copy the state once more.
+fn number_of(gain: Gain) -> u32
+    ensures { λ r. ⌜ r ≡ number (gain .answer) ⌝ }
+{
+    let answer = gain.answer;
+    answer.number()
+}
+
+fn put_pool(state: &mut Fortuna, place: usize, pool: Hasher)
+    requires { ⌜ place < 32 ⌝ }
+    ensures { λ _. ⌜ now (state .exit) ≡ withPool (now (state .entry)) place pool ⌝ }
+{
+    state.pools[place] = pool;
+}
+
+pub(crate) fn answer_of(o: Outcome) -> FortunaAnswer
+    ensures { λ r. ⌜ (r .number ≡ number (o .answer)) × (r .emptied ≡ o .emptied) ⌝ }
+{
+    let answer = o.answer;
+    FortunaAnswer {
+        number: answer.number(),
+        emptied: o.emptied,
+    }
 }
 
 #[no_mangle]
@@ -21,62 +74,41 @@ pub extern "C" fn fortuna_new() -> Fortuna
 }
 
 #[no_mangle]
-pub extern "C" fn fortuna_event(
-    state: Fortuna,
-    source: u32,
-    pool: u32,
-    data: &[u8],
-) -> FortunaOutcome
-    ensures { λ r. ⌜ Gives (step state (event source pool (now («data» .entry)))) r ⌝ }
+pub extern "C" fn fortuna_event(state: &mut Fortuna, source: u32, pool: u32, data: &[u8]) -> u32
+    ensures { λ r. ⌜ Leaves (step (now (state .entry)) (event source pool (now («data» .entry)))) r (now (state .exit)) ⌝ }
 {
-    let o = state.add_event(source, pool, data);
-    let answer = o.answer;
-    let next = o.next;
-    FortunaOutcome {
-        number: answer.number(),
-        emptied: o.emptied,
-        next: next,
-    }
+    let s = *state;
+    let gain = gain_of(s, source, pool, data);
+    put_pool(state, gain.place, gain.pool);
+    number_of(gain)
 }
 
 #[no_mangle]
-pub extern "C" fn fortuna_request(state: Fortuna, clock: u32, out: &mut [u8]) -> FortunaOutcome
-    ensures { λ r. ⌜ GivesBytes (step state (request clock (now (out .entry)))) r (now (out .exit)) ⌝ }
+pub extern "C" fn fortuna_request(state: &mut Fortuna, clock: u32, out: &mut [u8]) -> FortunaAnswer
+    ensures { λ r. ⌜ LeavesBytes (step (now (state .entry)) (request clock (now (out .entry)))) r (now (state .exit)) (now (out .exit)) ⌝ }
 {
-    let o = state.random_data(clock, out);
-    let answer = o.answer;
-    let next = o.next;
-    FortunaOutcome {
-        number: answer.number(),
-        emptied: o.emptied,
-        next: next,
-    }
+    let s = *state;
+    let o = s.random_data(clock, out);
+    *state = o.next;
+    answer_of(o)
 }
 
 #[no_mangle]
-pub extern "C" fn fortuna_update(state: Fortuna, clock: u32, seed: &mut [u8]) -> FortunaOutcome
-    ensures { λ r. ⌜ GivesBytes (step state (update clock (now (seed .entry)))) r (now (seed .exit)) ⌝ }
+pub extern "C" fn fortuna_update(state: &mut Fortuna, clock: u32, seed: &mut [u8]) -> FortunaAnswer
+    ensures { λ r. ⌜ LeavesBytes (step (now (state .entry)) (update clock (now (seed .entry)))) r (now (state .exit)) (now (seed .exit)) ⌝ }
 {
-    let o = state.update_seed(clock, seed);
-    let answer = o.answer;
-    let next = o.next;
-    FortunaOutcome {
-        number: answer.number(),
-        emptied: o.emptied,
-        next: next,
-    }
+    let s = *state;
+    let o = s.update_seed(clock, seed);
+    *state = o.next;
+    answer_of(o)
 }
 
 #[no_mangle]
-pub extern "C" fn fortuna_write(state: Fortuna, clock: u32, seed: &mut [u8]) -> FortunaOutcome
-    ensures { λ r. ⌜ GivesBytes (step state (write clock (now (seed .entry)))) r (now (seed .exit)) ⌝ }
+pub extern "C" fn fortuna_write(state: &mut Fortuna, clock: u32, seed: &mut [u8]) -> FortunaAnswer
+    ensures { λ r. ⌜ LeavesBytes (step (now (state .entry)) (write clock (now (seed .entry)))) r (now (state .exit)) (now (seed .exit)) ⌝ }
 {
-    let o = state.write_seed(clock, seed);
-    let answer = o.answer;
-    let next = o.next;
-    FortunaOutcome {
-        number: answer.number(),
-        emptied: o.emptied,
-        next: next,
-    }
+    let s = *state;
+    let o = s.write_seed(clock, seed);
+    *state = o.next;
+    answer_of(o)
 }

@@ -56,14 +56,12 @@ impl fmt::Display for Refusal {
 impl std::error::Error for Refusal {}
 
 #[repr(C)]
-#[derive(Clone, Copy)]
 struct Generator {
     key: [u8; 32],
     counter: [u8; 16],
 }
 
 #[repr(C)]
-#[derive(Clone, Copy)]
 struct Pool {
     chain: [u32; 8],
     tail: [u8; 64],
@@ -71,7 +69,6 @@ struct Pool {
 }
 
 #[repr(C)]
-#[derive(Clone, Copy)]
 struct State {
     generator: Generator,
     pools: [Pool; 32],
@@ -81,28 +78,26 @@ struct State {
 }
 
 #[repr(C)]
-struct Outcome {
+struct Answer {
     number: u32,
     emptied: u32,
-    next: State,
 }
 
 // The sizes that the header's structs have in C.
-const _: () =
-    assert!(size_of::<Pool>() == 104 && size_of::<State>() == 3392 && size_of::<Outcome>() == 3400);
+const _: () = assert!(size_of::<Pool>() == 104 && size_of::<State>() == 3392);
 
 extern "C" {
     fn fortuna_new() -> State;
     fn fortuna_event(
-        state: State,
+        state: *mut State,
         source: u32,
         pool: u32,
         data: *const u8,
         length: usize,
-    ) -> Outcome;
-    fn fortuna_request(state: State, clock: u32, out: *mut u8, length: usize) -> Outcome;
-    fn fortuna_update(state: State, clock: u32, seed: *mut u8, length: usize) -> Outcome;
-    fn fortuna_write(state: State, clock: u32, seed: *mut u8, length: usize) -> Outcome;
+    ) -> u32;
+    fn fortuna_request(state: *mut State, clock: u32, out: *mut u8, length: usize) -> Answer;
+    fn fortuna_update(state: *mut State, clock: u32, seed: *mut u8, length: usize) -> Answer;
+    fn fortuna_write(state: *mut State, clock: u32, seed: *mut u8, length: usize) -> Answer;
 }
 
 /// Fortuna with its pools, timer and seeds. It is not `Clone`: two copies would give the same bytes.
@@ -110,8 +105,8 @@ pub struct Fortuna {
     state: State,
 }
 
-// In each call below pointer and length are those of one slice, which lasts for the call and overlaps nothing else. The
-// pointer of an empty slice is not null either.
+// In each call below pointer and length are those of one slice, which lasts for the call and overlaps nothing else, nor
+// the state. The pointer of an empty slice is not null either.
 impl Fortuna {
     /// Unseeded, with empty pools.
     #[allow(clippy::new_without_default)]
@@ -123,33 +118,31 @@ impl Fortuna {
 
     /// A pool gains 1 to 32 bytes of noise from a source.
     pub fn event(&mut self, source: u32, pool: u32, data: &[u8]) -> Result<(), Refusal> {
-        let outcome = unsafe { fortuna_event(self.state, source, pool, data.as_ptr(), data.len()) };
-        self.keep(outcome).map(|_| ())
+        match unsafe { fortuna_event(&mut self.state, source, pool, data.as_ptr(), data.len()) } {
+            0 => Ok(()),
+            number => Err(Refusal::from_number(number)),
+        }
     }
 
     /// Fills `out`, after a pool reseed if one is due. Gives how many pools were emptied, as the seed calls do.
     pub fn request(&mut self, clock: u32, out: &mut [u8]) -> Result<u32, Refusal> {
-        let outcome = unsafe { fortuna_request(self.state, clock, out.as_mut_ptr(), out.len()) };
-        self.keep(outcome)
+        result(unsafe { fortuna_request(&mut self.state, clock, out.as_mut_ptr(), out.len()) })
     }
 
     /// The seed goes in, and its successor stands in its place. Store that before anything is drawn.
     pub fn update(&mut self, clock: u32, seed: &mut [u8; 64]) -> Result<u32, Refusal> {
-        let outcome = unsafe { fortuna_update(self.state, clock, seed.as_mut_ptr(), seed.len()) };
-        self.keep(outcome)
+        result(unsafe { fortuna_update(&mut self.state, clock, seed.as_mut_ptr(), seed.len()) })
     }
 
     /// A seed for the next start.
     pub fn write(&mut self, clock: u32, seed: &mut [u8; 64]) -> Result<u32, Refusal> {
-        let outcome = unsafe { fortuna_write(self.state, clock, seed.as_mut_ptr(), seed.len()) };
-        self.keep(outcome)
+        result(unsafe { fortuna_write(&mut self.state, clock, seed.as_mut_ptr(), seed.len()) })
     }
+}
 
-    fn keep(&mut self, outcome: Outcome) -> Result<u32, Refusal> {
-        self.state = outcome.next;
-        match outcome.number {
-            0 => Ok(outcome.emptied),
-            number => Err(Refusal::from_number(number)),
-        }
+fn result(answer: Answer) -> Result<u32, Refusal> {
+    match answer.number {
+        0 => Ok(answer.emptied),
+        number => Err(Refusal::from_number(number)),
     }
 }
