@@ -16,7 +16,7 @@ use Rattle.pools.specs.declared.Outcome.{Outcome}
 use Rattle.bench.specs.Hexadecimal.{decimal}
 use Rattle.bench.specs.Lines.{space, lineFeed, noFrame, numberLine, spaced, outputLine, answerLine, outcomeLine, LineEffect, executed, Prints}
 use Rattle.bench.proofs.Hexadecimal.{length-encode}
-use Rattle.bench.proofs.Numbers.{step-emptied-few, pools-small}
+use Rattle.pools.proofs.Bounds.{step-emptied-few, pools-small}
 use Rattle.bench.proofs.Printing.{Shown}
 
 -- a line was shown, and it is the effect's

@@ -13,3 +13,4 @@ pub mod Serving
 pub mod Servables
 pub mod Outcomes
 pub mod Numbers
+pub mod Bounds

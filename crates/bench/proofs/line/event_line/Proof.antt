@@ -2,7 +2,7 @@
 -- Assumes nothing.
 use borrow.Author.Needs.{needs}
 use Rattle.bench.proofs.Executed.{event-prints}
-use Rattle.bench.proofs.Numbers.{answer-small}
+use Rattle.pools.proofs.Bounds.{answer-small}
 use Rattle.bench.proofs.line.event_line.Statement.{statement}
 use Rattle.bench.proofs.line.event_line.Tie as tie
 

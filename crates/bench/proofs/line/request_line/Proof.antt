@@ -9,7 +9,7 @@ use Rattle.pools.specs.Calls.{request}
 use Rattle.bench.specs.Buffers.{zeros}
 use Rattle.bench.proofs.Buffers.{front-zeros, length-front-zeros, length-back, front-back, length-front-back}
 use Rattle.bench.proofs.Executed.{request-lends, emptied-small, output-prints}
-use Rattle.bench.proofs.Numbers.{answer-small}
+use Rattle.pools.proofs.Bounds.{answer-small}
 use Rattle.bench.proofs.line.request_line.Statement.{statement}
 use Rattle.bench.proofs.line.request_line.Tie as tie
 

@@ -3,7 +3,7 @@
 use borrow.Author.Needs.{needs}
 use Rattle.pools.specs.Calls.{update}
 use Rattle.bench.proofs.Executed.{update-lends, emptied-small, output-prints}
-use Rattle.bench.proofs.Numbers.{answer-small}
+use Rattle.pools.proofs.Bounds.{answer-small}
 use Rattle.bench.proofs.line.update_line.Statement.{statement}
 use Rattle.bench.proofs.line.update_line.Tie as tie
 

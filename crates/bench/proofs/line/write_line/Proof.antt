@@ -5,7 +5,7 @@ use Rattle.pools.specs.Calls.{write}
 use Rattle.pools.specs.Refusals.{seedSize}
 use Rattle.bench.specs.Buffers.{zeros}
 use Rattle.bench.proofs.Executed.{write-lends, emptied-small, output-prints}
-use Rattle.bench.proofs.Numbers.{answer-small}
+use Rattle.pools.proofs.Bounds.{answer-small}
 use Rattle.bench.proofs.line.write_line.Statement.{statement}
 use Rattle.bench.proofs.line.write_line.Tie as tie
 
