@@ -66,7 +66,7 @@ impl Fortuna {
         }
     }
 
-    // 21: the pools, then the other fields.
+    // 21, all clauses.
     fn is_malformed(self) -> bool
         ensures { λ r. ⌜ r ≡ malformed self ⌝ }
     {
@@ -140,7 +140,7 @@ impl Fortuna {
         }
     }
 
-    // An event from a source into a pool.
+    // An event from a source into a pool. The pools are checked here, as in is_malformed: a call of it would copy the state.
     pub fn add_event(mut self, source: u32, pool: u32, data: &[u8]) -> Outcome
         ensures { λ r. ⌜ Gives (step self (event source pool (now («data» .entry)))) r ⌝ }
     {
@@ -157,6 +157,7 @@ impl Fortuna {
             malformed = malformed | pool_malformed(p, &masks);
             k += 1;
         }
+        // With no such pool the answer does not depend on what is read.
         let i = (pool % 32) as usize;
         let held = self.pools[i];
         let answer = event_answer(malformed, held.length, source, pool, data.len());
