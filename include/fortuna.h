@@ -30,6 +30,8 @@ enum {
     FORTUNA_REQUEST_TOO_LONG = 14,
     /* a seed update or a seed write: a seed buffer that is not exactly 64 bytes */
     FORTUNA_BAD_SEED = 15,
+    /* a line of a log that is no frame; no function returns it, it stands in fortuna_log's answers */
+    FORTUNA_NO_FRAME = 16,
     /* a message above 2^61 - 1 bytes, or a seed for the generator alone above 2^61 - 33 bytes */
     FORTUNA_TOO_LONG = 17,
     /* a malformed state, which no run of calls leaves: a pool length above 2^61 - 1; a byte after a pool's tail that is
@@ -166,6 +168,14 @@ fortuna_answer fortuna_update(fortuna_state *state, uint32_t clock, uint8_t *see
 /* A request for 64 bytes overwrites the 64 bytes at seed, for the next start.
    FORTUNA_DONE, FORTUNA_BAD_SEED, FORTUNA_MALFORMED, FORTUNA_UNSEEDED or FORTUNA_COUNTER_SPENT. */
 fortuna_answer fortuna_write(fortuna_state *state, uint32_t clock, uint8_t *seed, size_t length);
+
+/* Runs a log of calls from the state before anything. The log is length characters, a frame to a line, in capital
+   hexadecimal, at most 256 characters: 01 and source, pool, data for an event; 02 and clock, n for a request of n
+   bytes; 03 and clock, seed for a seed update; 04 and clock for a seed write. clock has 4 bytes and n has 2, most
+   significant first. The answers go to out, a line for each line: two decimal digits, 00 or the number of the refusal;
+   after 00 for 02, 03 and 04 a space and the pools emptied in two decimal digits, then, unless n = 0, a space and the
+   bytes in capital hexadecimal. Stores as many characters as there is room for, and returns how many. */
+size_t fortuna_log(const uint8_t *log, size_t length, uint8_t *out, size_t room);
 
 #ifdef __cplusplus
 }

@@ -2,13 +2,10 @@
 -- Assumes nothing.
 use mathlib.Core.Path.{_≡_}
 use mathlib.Core.List.{List}
-use Prim.Native.Nat.{ℕ, _<_}
-use Rattle.pools.specs.Promises.{number}
-use Rattle.pools.specs.Effects.{withPool}
+use Prim.Native.Nat.{ℕ}
 use Rattle.pools.specs.Calls.{Outcome}
 use Rattle.pools.specs.declared.Fortuna.{Fortuna}
 use Rattle.fortuna_c.specs.declared.station.FortunaAnswer.{FortunaAnswer}
-use Rattle.fortuna_c.specs.declared.station.Gain.{Gain}
 
 -- its number, and the next state
 abbrev pub Leaves : Outcome Fortuna → ℕ → Fortuna → Type 0
@@ -17,7 +14,3 @@ Leaves o n s = (n ≡ o .number) × (s ≡ o .effect .next)
 -- also the pools emptied, and what the lent buffer then holds
 abbrev pub LeavesBytes : Outcome Fortuna → FortunaAnswer → Fortuna → List ℕ → Type 0
 LeavesBytes o r s buffer = Leaves o (r .number) s × (r .emptied ≡ o .effect .emptied) × (buffer ≡ o .effect .buffer)
-
--- its number, and one pool by which the next state differs from s
-abbrev pub Gains : Outcome Fortuna → Fortuna → Gain → Type 0
-Gains o s g = (number (g .answer) ≡ o .number) × (g .place < 32) × (withPool s (g .place) (g .pool) ≡ o .effect .next)

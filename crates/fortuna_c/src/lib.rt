@@ -3,6 +3,7 @@ mod aes256;
 mod fortuna_generator;
 mod sha256;
 mod station;
+mod whole_log;
 
 pub use aes256::Aes256Key;
 pub use aes256::fortuna_aes256_block;
@@ -20,3 +21,4 @@ pub use station::fortuna_new;
 pub use station::fortuna_request;
 pub use station::fortuna_update;
 pub use station::fortuna_write;
+pub use whole_log::fortuna_log;

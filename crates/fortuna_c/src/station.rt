@@ -1,7 +1,7 @@
 // The four calls, on a state that the caller lends. A state is 3.4 KB, and each copy of it costs some 370 instructions.
 use hash::Hasher;
-use pools::Answer;
 use pools::Fortuna;
+use pools::Gain;
 use pools::Outcome;
 ghost use mathlib.Core.Path.{_≡_};
 ghost use Prim.Native.Nat.{_<_};
@@ -9,7 +9,7 @@ ghost use Rattle.pools.specs.Promises.{number};
 ghost use Rattle.pools.specs.State.{fresh};
 ghost use Rattle.pools.specs.Effects.{withPool};
 ghost use Rattle.pools.specs.Calls.{event, request, update, write, step};
-ghost use Rattle.fortuna_c.specs.Outcomes.{Gains, Leaves, LeavesBytes};
+ghost use Rattle.fortuna_c.specs.Outcomes.{Leaves, LeavesBytes};
 
 // The refusal's number, or 0, and how many pools were emptied.
 #[repr(C)]
@@ -18,30 +18,6 @@ pub struct FortunaAnswer {
     pub emptied: u32,
 }
 
-// What an event comes to: its answer, and the one pool to store.
-struct Gain {
-    answer: Answer,
-    place: usize,
-    pool: Hasher,
-}
-
-// The event on a copy of the state. Where it is refused, the pool is the one that stands at the place.
-fn gain_of(state: Fortuna, source: u32, pool: u32, data: &[u8]) -> Gain
-    ensures { λ r. ⌜ Gains (step state (event source pool (now («data» .entry)))) state r ⌝ }
-{
-    let o = state.add_event(source, pool, data);
-    let answer = o.answer;
-    let next = o.next;
-    let place = (pool % 32) as usize;
-    let held = next.pools[place];
-    Gain {
-        answer: answer,
-        place: place,
-        pool: held,
-    }
-}
-
-// Not taken in gain_of: the compiler would then copy the state once more.
 fn number_of(gain: Gain) -> u32
     ensures { λ r. ⌜ r ≡ number (gain .answer) ⌝ }
 {
@@ -78,7 +54,7 @@ pub extern "C" fn fortuna_event(state: &mut Fortuna, source: u32, pool: u32, dat
     ensures { λ r. ⌜ Leaves (step (now (state .entry)) (event source pool (now («data» .entry)))) r (now (state .exit)) ⌝ }
 {
     let s = *state;
-    let gain = gain_of(s, source, pool, data);
+    let gain = s.gain_of(source, pool, data);
     put_pool(state, gain.place, gain.pool);
     number_of(gain)
 }

@@ -64,29 +64,29 @@ found-more d at i t h l f =
     rw e′ (ap (λ (b : Bool). b && allZero (drop (i + 1) t)) (or-none d (getD t i 0)) ∙ and-assoc (eqb d 0) (eqb (getD t i 0) 0) (allZero (drop (i + 1) t)) ∙ g)
 
 -- the masks before and after the seam
-mask-none : (j : ℕ) → j < 64 → getD maskBytes j 0 ≡ 0
+mask-none : (j : ℕ) → j < 63 → getD maskBytes j 0 ≡ 0
 unfolding maskBytes
-mask-none j h = List·getD-append (replicate 64 0) (replicate 64 255) 0 j (rw length-replicate h) ∙ getD-replicate 64 j 0 0 h
+mask-none j h = List·getD-append (replicate 63 0) (replicate 64 255) 0 j (rw length-replicate h) ∙ getD-replicate 63 j 0 0 h
 
-mask-all : (j : ℕ) → j < 64 → getD maskBytes (64 + j) 0 ≡ 255
+mask-all : (j : ℕ) → j < 64 → getD maskBytes (63 + j) 0 ≡ 255
 unfolding maskBytes
-mask-all j h = getD-append-add (replicate 64 0) (replicate 64 255) j 0 ∙ getD-replicate 64 j 255 0 h
+mask-all j h = getD-append-add (replicate 63 0) (replicate 64 255) j 0 ∙ getD-replicate 64 j 255 0 h
 
 -- one turn: r is d with the bits of byte i that the mask keeps
 pub found-turn : (r d at i : ℕ) (t m : List ℕ) → m ≡ maskBytes → at < 64 → i < 64 → length t ≡ 64
-    → (getD m (64 - at + i) 0 ≡ 0 → r ≡ d) × (getD m (64 - at + i) 0 ≡ 255 → r ≡ bitOr d (getD t i 0))
+    → (getD m (63 - at + i) 0 ≡ 0 → r ≡ d) × (getD m (63 - at + i) 0 ≡ 255 → r ≡ bitOr d (getD t i 0))
     → Found d at t i → Found r at t (i + 1)
 found-turn r d at i t m e h l n (low, high) f = go (ltb i at) refl
   where
     go : (b : Bool) → ltb i at ≡ b → Found r at t (i + 1)
     go true b =
         let k : i < at = ltb-true i at b in
-        let z : getD m (64 - at + i) 0 ≡ 0 = rw e (mask-none (64 - at + i) (omega arith)) in
+        let z : getD m (63 - at + i) 0 ≡ 0 = rw e (mask-none (63 - at + i) (omega arith)) in
         rw (low z) (found-below d at i t k f)
     go false b =
         let k : at ≤ i = ltb-false i at b in
-        let p : 64 - at + i ≡ 64 + (i - at) = omega arith in
-        let z : getD m (64 - at + i) 0 ≡ 255 = rw (e, p) (mask-all (i - at) (omega arith)) in
+        let p : 63 - at + i ≡ 63 + (i - at) = omega arith in
+        let z : getD m (63 - at + i) 0 ≡ 255 = rw (e, p) (mask-all (i - at) (omega arith)) in
         rw (high z) (found-more d at i t k (omega arith) f)
 
 -- t is at its end

@@ -1,7 +1,7 @@
 -- The loop that looks at each pool of a state in turn, for 21.
 -- Assumes nothing.
 use mathlib.Core.Path.{_≡_, sym, _∙_}
-use mathlib.Core.Bool.{Bool, _||_, or-false, or-assoc, or-comm}
+use mathlib.Core.Bool.{Bool, true, false, _||_, or-true, or-false, or-assoc, or-comm}
 use mathlib.Core.List.{List, [], map}
 use Prim.Native.Nat.{ℕ, _+_, _≤_, _<_}
 use native.Mathlib.Numerals.{add-one}
@@ -25,13 +25,21 @@ Checked pools f m k = (m || anyPool malformedPool (drop k pools)) ≡ (anyPool m
 pub checked-none : (pools : List Hasher) (f : Bool) → Checked pools f f 0
 checked-none pools f = or-comm f (anyPool malformedPool pools)
 
--- x is the test of the next one
-pub checked-more : (pools : List Hasher) (f m x : Bool) (k : ℕ) → length pools ≡ 32 → k < 32
+-- x is the test of the next one: the loop comes to true where it holds, and to what it had where it does not
+next : (pools : List Hasher) (f m x : Bool) (k : ℕ) → length pools ≡ 32 → k < 32
     → x ≡ malformedPool (getD pools k (record { chain = []; tail = []; length = 0 }))
     → Checked pools f m k → Checked pools f (m || x) (k + 1)
 unfolding anyPool
-checked-more pools f m x k l h t e =
+next pools f m x k l h t e =
     rw (add-one k, t, or-assoc) (rw (drop-cons pools k (record { chain = []; tail = []; length = 0 }) (omega arith)) at e)
+
+module _ (pools : List Hasher) (f m x y : Bool) (k : ℕ) (l : length pools ≡ 32) (h : k < 32)
+    (t : x ≡ malformedPool (getD pools k (record { chain = []; tail = []; length = 0 }))) (e : Checked pools f m k) where
+  pub checked-found : x ≡ true → y ≡ true → Checked pools f y (k + 1)
+  checked-found z w = rw w (rw (z, or-true) at (next pools f m x k l h t e))
+
+  pub checked-passed : x ≡ false → y ≡ m → Checked pools f y (k + 1)
+  checked-passed z w = rw w (rw (z, or-false) at (next pools f m x k l h t e))
 
 -- all are looked at, from the test of the other fields on
 pub checked-all : (s : Fortuna) (f m : Bool) (k : ℕ) → length (s .pools) ≡ 32 → 32 ≤ k

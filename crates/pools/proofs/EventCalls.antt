@@ -1,12 +1,14 @@
 -- An event, where the code reads pool i modulo 32: with no such pool the answer does not depend on what it reads.
 -- Assumes nothing.
 use mathlib.Core.Path.{_≡_, refl, sym, ap, _∙_}
-use mathlib.Core.Bool.{Bool, true}
+use mathlib.Core.Bool.{Bool, true, false}
 use mathlib.Core.List.{List, []}
 use Prim.Native.Nat.{ℕ, _+_, _%_, _≤_, _<_}
 use native.Mathlib.Nat.{mod-eq-of-lt}
+use native.Mathlib.Omega.{arith}
 use lib.Dec.{eqb}
 use lib.ListN.{length, set}
+use lib.Seq.{set-getD}
 use borrow.Author.Tests.{eqb-true}
 use Rattle.hash.specs.Hasher.{absorb}
 use Rattle.hash.specs.Double.{maxPoolLength}
@@ -15,9 +17,10 @@ use Rattle.pools.specs.Events.{maxSource, poolCount, maxData, eventBytes
 use Rattle.pools.specs.State.{poolAt, malformed}
 use Rattle.pools.specs.Refusals.{eventNumber}
 use Rattle.pools.specs.Effects.{withPool, addEvent}
-use Rattle.pools.specs.Calls.{event, callNumber, callEffect}
+use Rattle.pools.specs.Calls.{event, callNumber, callEffect, step}
 use Rattle.pools.specs.declared.Fortuna.{Fortuna}
 use Rattle.pools.proofs.Acceptance.{EventPassed, event-passed, event-room, event-size}
+use Rattle.pools.proofs.Outcomes.{gives-done, gives-kept}
 
 in-range : (pool : ℕ) → pool < poolCount → pool % 32 ≡ pool
 unfolding poolCount
@@ -51,3 +54,20 @@ module _ (s : Fortuna) (source pool : ℕ) (d : List ℕ) (m : Bool) (k : ℕ) (
         × ([] ≡ callEffect s (event source pool d) .buffer)
     unfolding callEffect addEvent withPool
     event-effect q e = (refl, rw (e, in-range pool (passed .place)), refl)
+
+  -- t is the code's test for an event that is done: the pool gained, or is the one that stands there
+  module _ (t : Bool) (tested : t ≡ eqb k 0) where
+    abbrev Comes : Hasher → Type 0
+    Comes q = (k ≡ step s (event source pool d) .number) × (step s (event source pool d) .effect .emptied ≡ 0) × (pool % 32 < 32) × (withPool s (pool % 32) q ≡ step s (event source pool d) .effect .next)
+
+    pub comes-gained : t ≡ true → (q : Hasher) → q ≡ absorb (poolAt s (pool % 32)) (eventBytes source d) → Comes q
+    unfolding withPool
+    comes-gained h q e =
+        let given = gives-done s (event source pool d) k t event-number tested 0 _ [] h (event-effect (sym tested ∙ h) q e) .0 in
+        (given .0, sym (given .1), omega arith, given .2)
+
+    pub comes-kept : t ≡ false → (q : Hasher) → q ≡ poolAt s (pool % 32) → Comes q
+    unfolding withPool poolAt
+    comes-kept h q e =
+        let given = gives-kept s (event source pool d) k t event-number tested h .0 in
+        (given .0, sym (given .1), omega arith, rw (e, set-getD (s .pools) (pool % 32) (record { chain = []; tail = []; length = 0 })) (given .2))

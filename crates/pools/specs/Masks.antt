@@ -4,6 +4,6 @@ use mathlib.Core.List.{List, _++_}
 use Prim.Native.Nat.{ℕ}
 use lib.ListN.{replicate}
 
--- 64 bytes that keep no bit, then 64 that keep all
+-- 63 bytes that keep no bit, then 64 that keep all
 unfoldable pub maskBytes : List ℕ
-maskBytes = replicate 64 0 ++ replicate 64 255
+maskBytes = replicate 63 0 ++ replicate 64 255

@@ -2,9 +2,11 @@
 -- Assumes nothing.
 use mathlib.Core.Path.{_≡_}
 use mathlib.Core.List.{List}
-use Prim.Native.Nat.{ℕ}
+use Prim.Native.Nat.{ℕ, _<_}
+use Rattle.pools.specs.Effects.{withPool}
 use Rattle.pools.specs.Calls as Calls
 use Rattle.pools.specs.declared.Fortuna.{Fortuna}
+use Rattle.pools.specs.declared.Gain.{Gain}
 use Rattle.pools.specs.declared.Outcome.{Outcome}
 use Rattle.pools.specs.declared.answer.Answer.{Answer}
 use Rattle.pools.specs.declared.answer.Answer.the-variants.{Done, SourceOutOfRange, PoolOutOfRange, DataLength, RequestTooLong, SeedSize, Malformed, PoolFull, Unseeded, CounterSpent}
@@ -33,3 +35,7 @@ Gives o r = (number (r .answer) ≡ o .number) × (r .emptied ≡ o .effect .emp
 -- and the lent buffer holds what it says
 abbrev pub GivesBytes : Calls.Outcome Fortuna → Outcome → List ℕ → Type 0
 GivesBytes o r out = Gives o r × (out ≡ o .effect .buffer)
+
+-- what an event comes to on the state s: its number, no pool emptied, and the one pool by which the next state differs from s
+abbrev pub Gains : Calls.Outcome Fortuna → Fortuna → Gain → Type 0
+Gains o s g = (number (g .answer) ≡ o .number) × (o .effect .emptied ≡ 0) × (g .place < 32) × (withPool s (g .place) (g .pool) ≡ o .effect .next)

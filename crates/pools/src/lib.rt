@@ -25,7 +25,7 @@ ghost use Rattle.pools.specs.Schedule.{usedPools};
 ghost use Rattle.pools.specs.Effects.{nextReseed, poolReseed, randomData};
 ghost use Rattle.pools.specs.Calls.{event, request, update, write, step};
 ghost use Rattle.pools.specs.Collected.{Reseedable, Servable};
-ghost use Rattle.pools.specs.Promises.{Gives, GivesBytes};
+ghost use Rattle.pools.specs.Promises.{Gives, GivesBytes, Gains};
 
 // The state. last_reseed is the clock at the last pool reseed, reseed_count their number modulo 2^32, reseeded whether one was made.
 #[repr(C)]
@@ -42,6 +42,13 @@ pub struct Outcome {
     pub answer: Answer,
     pub emptied: u32,
     pub next: Fortuna,
+}
+
+// What an event comes to: its answer, and the one pool to store.
+pub struct Gain {
+    pub answer: Answer,
+    pub place: usize,
+    pub pool: Hasher,
 }
 
 // What an accepted call leaves.
@@ -80,7 +87,9 @@ impl Fortuna {
         let mut k: usize = 0;
         while k < 32 {
             let pool = self.pools[k];
-            malformed = malformed | pool_malformed(pool, &masks);
+            if pool_malformed(pool, &masks) {
+                malformed = true;
+            }
             k += 1;
         }
         malformed
@@ -140,9 +149,10 @@ impl Fortuna {
         }
     }
 
-    // An event from a source into a pool. The pools are checked here, as in is_malformed: a call of it would copy the state.
-    pub fn add_event(mut self, source: u32, pool: u32, data: &[u8]) -> Outcome
-        ensures { λ r. ⌜ Gives (step self (event source pool (now («data» .entry)))) r ⌝ }
+    // What an event from a source into a pool comes to. Where it is refused, the pool is the one that stands at the place.
+    // The pools are checked here, as in is_malformed: a call of it would copy the state.
+    pub fn gain_of(self, source: u32, pool: u32, data: &[u8]) -> Gain
+        ensures { λ r. ⌜ Gains (step self (event source pool (now («data» .entry)))) self r ⌝ }
     {
         let masks = masks();
         let mut malformed = fields_malformed(
@@ -154,17 +164,35 @@ impl Fortuna {
         let mut k: usize = 0;
         while k < 32 {
             let p = self.pools[k];
-            malformed = malformed | pool_malformed(p, &masks);
+            if pool_malformed(p, &masks) {
+                malformed = true;
+            }
             k += 1;
         }
         // With no such pool the answer does not depend on what is read.
-        let i = (pool % 32) as usize;
-        let held = self.pools[i];
+        let place = (pool % 32) as usize;
+        let mut held = self.pools[place];
         let answer = event_answer(malformed, held.length, source, pool, data.len());
         if answer.is_done() {
             let next = gained(held, source, data);
-            self.pools[i] = next;
+            held = next;
         }
+        Gain {
+            answer: answer,
+            place: place,
+            pool: held,
+        }
+    }
+
+    // An event from a source into a pool.
+    pub fn add_event(mut self, source: u32, pool: u32, data: &[u8]) -> Outcome
+        ensures { λ r. ⌜ Gives (step self (event source pool (now («data» .entry)))) r ⌝ }
+    {
+        let gain = self.gain_of(source, pool, data);
+        let answer = gain.answer;
+        let place = gain.place;
+        let held = gain.pool;
+        self.pools[place] = held;
         Outcome {
             answer: answer,
             emptied: 0,

@@ -13,9 +13,8 @@ ghost use Rattle.pools.specs.Pool.{malformedPool};
 ghost use Rattle.pools.specs.State.{malformedFields};
 ghost use Rattle.pools.specs.Masks.{maskBytes};
 
-// 64 bytes that keep nothing, then 64 that keep all: from 64 - n on, what stands after n bytes is kept.
-const MASKS: [u8; 128] = [
-    0,
+// 63 bytes that keep nothing, then 64 that keep all: from 63 - n on, what stands after n bytes is kept.
+const MASKS: [u8; 127] = [
     0,
     0,
     0,
@@ -146,7 +145,7 @@ const MASKS: [u8; 128] = [
 ];
 
 // Built once for the 32 pools.
-pub(crate) fn masks() -> [u8; 128]
+pub(crate) fn masks() -> [u8; 127]
     ensures { λ r. ⌜ r ≡ maskBytes ⌝ }
 {
     MASKS
@@ -160,14 +159,14 @@ fn with_masked(d: u8, byte: u8, mask: u8) -> u8
 }
 
 // 0 exactly if the bytes from `at` on are zero.
-fn bits_from(tail: [u8; 64], masks: &[u8; 128], at: usize) -> u8
+fn bits_from(tail: [u8; 64], masks: &[u8; 127], at: usize) -> u8
     requires { ⌜ (at < 64) × (now masks ≡ maskBytes) ⌝ }
     ensures { λ r. ⌜ eqb r 0 ≡ allZero (drop at tail) ⌝ }
 {
     let mut d = 0u8;
     let mut i: usize = 0;
     while i < 64 {
-        d = with_masked(d, tail[i], masks[64 - at + i]);
+        d = with_masked(d, tail[i], masks[63 - at + i]);
         i += 1;
     }
     d
@@ -186,7 +185,7 @@ fn differences(a: [u32; 8], b: [u32; 8]) -> u32
     d
 }
 
-pub(crate) fn pool_malformed(pool: Hasher, masks: &[u8; 128]) -> bool
+pub(crate) fn pool_malformed(pool: Hasher, masks: &[u8; 127]) -> bool
     requires { ⌜ now masks ≡ maskBytes ⌝ }
     ensures { λ r. ⌜ r ≡ malformedPool pool ⌝ }
 {

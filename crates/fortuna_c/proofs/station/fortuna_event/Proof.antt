@@ -40,21 +40,21 @@ use denote.Triple.Walked.{says, Stays, gave-ref, stay-none, stay-none-slice, wal
 use denote.Exit.{yes}
 use Rattle.hash.proofs.hasher.Hasher as R
 use Rattle.hash.proofs.hasher.Hasher.Laws as R′
-use Rattle.pools.specs.Promises.{number}
+use Rattle.pools.specs.Promises.{number, Gains}
 use Rattle.pools.specs.Effects.{withPool}
 use Rattle.pools.specs.Calls.{Outcome, event, step}
 use Rattle.pools.specs.declared.Fortuna.{Fortuna}
 use Rattle.pools.proofs.Fortuna as T
 use Rattle.pools.proofs.Fortuna.Laws as T′
-use Rattle.fortuna_c.specs.Outcomes.{Gains, Leaves}
-use Rattle.fortuna_c.specs.declared.station.Gain.{Gain}
+use Rattle.fortuna_c.specs.Outcomes.{Leaves}
+use Rattle.pools.specs.declared.Gain.{Gain}
 use Rattle.fortuna_c.proofs.Lent.{mach, IsState, sees, lent, opened, shut}
-use Rattle.fortuna_c.proofs.station.Gain as Y
-use Rattle.fortuna_c.proofs.station.Gain.Laws as Y′
-use Rattle.fortuna_c.proofs.station.gain_of as gain-of
-use Rattle.fortuna_c.proofs.station.gain_of.Symbol as gain-of-def
-use Rattle.fortuna_c.proofs.station.gain_of.Symbol.{name as key-gain-of}
-use Rattle.fortuna_c.proofs.station.gain_of.Met as gain-of-thm
+use Rattle.pools.proofs.Gain as Y
+use Rattle.pools.proofs.Gain.Laws as Y′
+use Rattle.pools.proofs.Fortuna.gain_of as gain-of
+use Rattle.pools.proofs.Fortuna.gain_of.Symbol as gain-of-def
+use Rattle.pools.proofs.Fortuna.gain_of.Symbol.{name as key-gain-of}
+use Rattle.pools.proofs.Fortuna.gain_of.Met as gain-of-thm
 use Rattle.fortuna_c.proofs.station.put_pool as put-pool
 use Rattle.fortuna_c.proofs.station.put_pool.Symbol as put-pool-def
 use Rattle.fortuna_c.proofs.station.put_pool.Symbol.{name as key-put-pool}
@@ -164,7 +164,7 @@ module _ {M : Type 1} (𝓤 : URA M) (H : Heap 𝓤) (A : Atoms 𝓤) (W : Given
         move ! (1 ∷ []) $ facts ! Y.the-row (Is Y.the-row) (shows 𝓤 H A Y.the-row) r (u₁ ∷ []) (λ is. land ! (from ! (stop !)) (init ! 10 refl (LL.lawful Y.the-type Y′.the-laws 𝓤 H A W .typed r _ is .0)) $
         rewrite ! 10 (λ (z : Val). ‵ (fat fullShare Y′.mir l₆ 0 z)) (ap only (LL.tells Y.the-type Y′.the-laws r (u₁ ∷ []) is)) refl $
         assigns ! (addr ! (from ! (hop ! (look ! 20 refl) (stop !)))) (from ! (stop !)) (init ! 6 refl (tt, tt)) $
-        move ! (1 ∷ 2 ∷ 3 ∷ []) $ use3 W (raw (Put 𝓤 H A mem run .pre (to-put r))) (goes-put r (e .1) u₁ is) $
+        move ! (1 ∷ 2 ∷ 3 ∷ []) $ use3 W (raw (Put 𝓤 H A mem run .pre (to-put r))) (goes-put r (e .2) u₁ is) $
         calls-at ! fm (Put 𝓤 H A mem run) known-put (to-put r) (and-then ! (load ! (from ! (stop !)) (look ! 4 refl)) (and-then ! (load ! (from ! (fld ! refl (stop !))) (look-in ! 8 (sub ! 1 refl (whole !)))) (and-then ! (load ! (from ! (fld ! refl (stop !))) (look-in ! 8 (sub ! 2 refl (whole !)))) (no-more !)))) (λ u₂. use1 W (later (some (λ (k : Unit {0}). ((‵ (flft κ q) ⊛ ‵ ftrue) ⊛ ‵ (unit .own k (u₂ ∷ []))) ⊛ raw (ensured 𝓤 H A put-pool.ended (put-pool.clauses 𝓤 H A mem run) (κ, tt) (ref, (r .place, (r .pool, tt))) tt k)))) (id⊢ 𝓤 _) $ await ! tt $ pick ! (λ k. split ! $
         move ! (1 ∷ []) $ use1 W (some (λ (zs : Fortuna × (Unit {0} × (Unit {0} × Unit {0}))). ‵ (lasts put-pool.ended (κ, tt) (ref, (r .place, (r .pool, tt))) zs) ⊛ raw (fact 𝓤 (zs .0 ≡ withPool h (r .place) (r .pool))))) (id⊢ 𝓤 _) $ pick ! (λ zs. split ! $
         move ! (1 ∷ []) $ heard ! (zs .0 ≡ withPool h (r .place) (r .pool)) (λ e₂. fsplit ! $ move ! (2 ∷ []) $ split ! $
@@ -177,7 +177,7 @@ module _ {M : Type 1} (𝓤 : URA M) (H : Heap 𝓤) (A : Atoms 𝓤) (W : Given
         rewrite ! 23 (λ (z : Val). ‵ (fat fullShare (tyInt w32) l₀ 0 z)) (ap only (is₃ .0)) refl $
         returns ! (look ! 23 refl) $ forget ! 23 refl $ forget ! 21 refl $ forget ! 19 refl $ forget ! 17 refl $ forget ! 15 refl $ forget ! 13 refl $ forget ! 11 refl $ forget ! 9 refl $ forget ! 7 refl $
         move ! (23 ∷ 24 ∷ []) $ free1 ! $ move ! (21 ∷ 22 ∷ []) $ free1 ! $ move ! (19 ∷ 20 ∷ []) $ free1 ! $ move ! (17 ∷ 18 ∷ []) $ free1 ! $ move ! (15 ∷ 16 ∷ []) $ free1 ! $ move ! (13 ∷ 14 ∷ []) $ free1 ! $ move ! (11 ∷ 12 ∷ []) $ free1 ! $ move ! (9 ∷ 10 ∷ []) $ free1 ! $ move ! (7 ∷ 8 ∷ []) $ free1 ! $ free0 ! $
-        keep ! (2 ∷ 0 ∷ 4 ∷ 5 ∷ []) $ by ! (exits n (zs .0) (e₃ ∙ e .0, e₂ ∙ e .2) (is₃ .1)))))))))))))))))))))))))
+        keep ! (2 ∷ 0 ∷ 4 ∷ 5 ∷ []) $ by ! (exits n (zs .0) (e₃ ∙ e .0, e₂ ∙ e .3) (is₃ .1)))))))))))))))))))))))))
 
 module _ {M : Type 1} (𝓤 : URA M) (H : Heap 𝓤) (A : Atoms 𝓤) (W : Given 𝓤 H A) (mem : Memory → SProp 𝓤) (run : Routine → Fun 𝓤) where
   walks : (C : Calls 𝓤 H) (Λ : Loops 𝓤 H) → FmC 𝓤 H (W .laws) C → Triple 𝓤 (C key-gain-of) (Gained 𝓤 H A mem run) → Triple 𝓤 (C key-put-pool) (Put 𝓤 H A mem run) → Triple 𝓤 (C key-number-of) (Numbered 𝓤 H A mem run)
@@ -198,6 +198,6 @@ fortuna-event-spec 𝓤 H 𝓜 𝓖 𝓡 =
     entered 𝓤 H (tripleOf 𝓤 H (𝓖 .A) f.signature (f.spec 𝓤 H (𝓖 .A) (𝓜 .mem) (𝓡 .run)))
     (tables 𝓤 H 𝓜 𝓡 code.env .C) (tables 𝓤 H 𝓜 𝓡 code.env .Λ) #f code.function (code.unfolded 𝓤 H 𝓜 𝓡)
     (meets 𝓤 H (𝓖 .A) (givenOf 𝓤 H 𝓜 𝓖) (𝓜 .mem) (𝓡 .run) (tablesOf 𝓤 H 𝓜 (tables 𝓤 H 𝓜 𝓡 code.env))
-    (cited 𝓤 H (Gained 𝓤 H (𝓖 .A) (𝓜 .mem) (𝓡 .run)) 𝓜 𝓡 code.env key-gain-of gain-of-def.routine code.calls-fortuna-c·station·gain-of (gain-of-thm.met 𝓤 H 𝓜 𝓖 𝓡))
+    (cited 𝓤 H (Gained 𝓤 H (𝓖 .A) (𝓜 .mem) (𝓡 .run)) 𝓜 𝓡 code.env key-gain-of gain-of-def.routine code.calls-pools·Fortuna·gain-of (gain-of-thm.met 𝓤 H 𝓜 𝓖 𝓡))
     (cited 𝓤 H (Put 𝓤 H (𝓖 .A) (𝓜 .mem) (𝓡 .run)) 𝓜 𝓡 code.env key-put-pool put-pool-def.routine code.calls-fortuna-c·station·put-pool (put-pool-thm.met 𝓤 H 𝓜 𝓖 𝓡))
     (cited 𝓤 H (Numbered 𝓤 H (𝓖 .A) (𝓜 .mem) (𝓡 .run)) 𝓜 𝓡 code.env key-number-of number-of-def.routine code.calls-fortuna-c·station·number-of (number-of-thm.met 𝓤 H 𝓜 𝓖 𝓡)))

@@ -1,9 +1,10 @@
 -- `pools::Fortuna::is_malformed` meets its contract.
 -- Assumes nothing.
 use mathlib.Core.Path.{_≡_}
+use mathlib.Core.Logic.{⊎-elim}
 use Prim.Native.Nat.{_-_}
 use lib.ListN.{length}
-use Rattle.pools.proofs.Checks.{mapped-long, Checked, checked-none, checked-more, checked-all}
+use Rattle.pools.proofs.Checks.{mapped-long, Checked, checked-none, checked-found, checked-passed, checked-all}
 use borrow.Author.Needs.{needs}
 use Rattle.pools.proofs.Fortuna.is_malformed.Statement.{statement}
 use Rattle.pools.proofs.Fortuna.is_malformed.Tie as tie
@@ -43,9 +44,13 @@ loop-less c = search needs
 
 loop-again : tie.Need-loop-again Inv-loop μ-loop
 loop-again c =
-    let b = c .before .before .before .before in
-    let start = b .before .before .before .before in
-    checked-more (start .args .t1 .pools) _ (b .loop .malformed) _ (b .loop .k) (full start) (c .before .before .before .loop-test .taken) (c .pool-malformed .ensures) (b .loop .inv)
+    let at = c .before .before .before .before .before .loop in
+    let start = c .before .before .before .before .before .before .before .before .before in
+    let below = c .before .before .before .before .loop-test .taken in
+    ⊎-elim
+    (λ w. checked-found (start .args .t1 .pools) _ (at .malformed) _ _ (at .k) (full start) below (c .before .pool-malformed .ensures) (at .inv) (w .0 .taken) (w .1))
+    (λ w. checked-passed (start .args .t1 .pools) _ (at .malformed) _ _ (at .k) (full start) below (c .before .pool-malformed .ensures) (at .inv) (w .0 .left) (w .1))
+    (c .if1 .came)
 
 returns : tie.Need-returns Inv-loop μ-loop
 returns c =
