@@ -1,13 +1,16 @@
 #!/usr/bin/env python3
-"""What the programs in examples/ must print, worked out by tests/station.py.
+"""What the programs in examples/ must print, worked out by tests/station.py and, for the log, tests/logbook.py.
 
     tests/examples.py                  prints it
     tests/examples.py --check FILE     exits 1 where FILE differs"""
+import io
 import sys
 
+import logbook
 import station
 
 SEED = b"a seed from the workshop, other bytes for each digitiser".ljust(64, b"\0")
+LOG = b"010700A1B2\n02000000640010\nFF\n"
 
 
 def sample(source, turn):
@@ -35,6 +38,8 @@ def lines():
     refused = station.event(second.next, 0, 32, sample(0, 0))
     yield f"event for pool 32: refused, {refused.number} (no such pool)"
     yield f"seed for the next start: {station.write(refused.next, 2000, updated.buffer).buffer.hex()}"
+    yield "a log's answers:"
+    yield from (line.decode().rstrip() for line in logbook.answers(io.BytesIO(LOG)))
 
 
 def main(args):
@@ -45,7 +50,7 @@ def main(args):
     with open(args[1], encoding="ascii") as stored:
         if stored.read() == text:
             return 0
-    print(f"{args[1]}: not what tests/station.py works out", file=sys.stderr)
+    print(f"{args[1]}: not what tests/station.py and tests/logbook.py work out", file=sys.stderr)
     return 1
 
 

@@ -94,6 +94,15 @@ static void misplace_event(fortuna_state *f)
         printf("event for pool %d: refused, %u (%s)\n", POOLS, number, reason(number));
 }
 
+/* A stored log of calls, run in one call from a fresh station: an event, a request, and a line that is no frame. */
+static void run_log(void)
+{
+    static const uint8_t log[] = "010700A1B2\n02000000640010\nFF\n";
+    uint8_t answers[64];
+    size_t stored = fortuna_log(log, sizeof log - 1, answers, sizeof answers);
+    printf("a log's answers:\n%.*s", (int)stored, (const char *)answers);
+}
+
 int main(void)
 {
     fortuna_state f = fortuna_new();
@@ -111,5 +120,6 @@ int main(void)
     must("seed write", fortuna_write(&f, 2000, flash, sizeof flash).number);
     printf("seed for the next start: ");
     print_bytes(flash, sizeof flash);
+    run_log();
     return 0;
 }

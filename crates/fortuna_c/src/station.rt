@@ -1,4 +1,4 @@
-// The four calls, on a state that the caller lends. A state is 3.4 KB, and each copy of it costs some 370 instructions.
+// The four calls, on a state that the caller lends. A state is 3.4 KB, and each copy of it costs some 420 instructions.
 use hash::Hasher;
 use pools::Fortuna;
 use pools::Gain;

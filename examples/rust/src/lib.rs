@@ -98,6 +98,7 @@ extern "C" {
     fn fortuna_request(state: *mut State, clock: u32, out: *mut u8, length: usize) -> Answer;
     fn fortuna_update(state: *mut State, clock: u32, seed: *mut u8, length: usize) -> Answer;
     fn fortuna_write(state: *mut State, clock: u32, seed: *mut u8, length: usize) -> Answer;
+    fn fortuna_log(log: *const u8, length: usize, out: *mut u8, room: usize) -> usize;
 }
 
 /// Fortuna with its pools, timer and seeds. It is not `Clone`: two copies would give the same bytes.
@@ -145,4 +146,9 @@ fn result(answer: Answer) -> Result<u32, Refusal> {
         0 => Ok(answer.emptied),
         number => Err(Refusal::from_number(number)),
     }
+}
+
+/// Runs a log of calls from a fresh station. `out` takes as many characters of the answers as it has room for; gives how many.
+pub fn run_log(log: &[u8], out: &mut [u8]) -> usize {
+    unsafe { fortuna_log(log.as_ptr(), log.len(), out.as_mut_ptr(), out.len()) }
 }

@@ -1,7 +1,7 @@
 //! A digitiser from start to stop: the stored seed goes in and its successor is stored before any
 //! key is drawn, noise goes in as events, link keys come out. Noise, clock and flash page are
 //! stand-ins, so that each run prints the same.
-use fortuna::{Fortuna, Refusal};
+use fortuna::{run_log, Fortuna, Refusal};
 
 const SOURCES: u32 = 3;
 const TURNS: u32 = 64;
@@ -54,6 +54,16 @@ fn misplace_event(f: &mut Fortuna) {
     }
 }
 
+/// A stored log of calls, run in one call: an event, a request, and a line that is no frame.
+fn replay() {
+    let mut answers = [0; 64];
+    let stored = run_log(b"010700A1B2\n02000000640010\nFF\n", &mut answers);
+    print!(
+        "a log's answers:\n{}",
+        String::from_utf8_lossy(&answers[..stored])
+    );
+}
+
 fn main() -> Result<(), Refusal> {
     let mut f = Fortuna::new();
     let mut flash = stored_seed();
@@ -69,5 +79,6 @@ fn main() -> Result<(), Refusal> {
 
     f.write(2000, &mut flash)?;
     println!("seed for the next start: {}", hexadecimal(&flash));
+    replay();
     Ok(())
 }
