@@ -15,8 +15,8 @@ use Rattle.pools.specs.Schedule.{elapsed, isDue}
 use Rattle.pools.specs.Pool.{tooLong, dirtyTail, strayChain, malformedPool, full}
 use Rattle.pools.specs.State.{fresh, poolAt, counterOf, anyPool, unseededReseeded, strayTimer, malformedFields, malformed, due}
 use Rattle.pools.specs.Refusals.{andThen, seedSize, unseeded, spent, eventInput, eventState, eventNumber, requestInput, outputState, requestNumber, seedInput, updateState, updateNumber, writeNumber}
-use Rattle.pools.specs.Effects.{withPool, addEvent}
-use Rattle.pools.specs.Calls.{inputBuffer, callNumber, callEffect, unchanged, outcome, step}
+use Rattle.pools.specs.Effects.{unchanged, withPool, addEvent}
+use Rattle.pools.specs.Calls.{inputBuffer, callNumber, callEffect, callFound, effectOf, outcome, step}
 use Rattle.bench.specs.Hexadecimal.{isDecimal, isCapital, isDigit, digitValue, digitCharacter, decodeHex, encodeHex, allDigits, isHex, decimal}
 use Rattle.bench.specs.Frames as Frames
 use Rattle.bench.specs.Frames.{bigEndian16, bigEndian32, eventFrame, requestFrame, updateFrame, writeFrame, frameOf, frameOfText}
@@ -30,7 +30,7 @@ unfolding ascii exampleInput lines linesAfter lastLine isDecimal isCapital isDig
 example-frames = refl
 
 example-row : ExampleRow
-unfolding ascii exampleInput lines linesAfter lastLine isDecimal isCapital isDigit digitValue decodeHex allDigits isHex bigEndian16 bigEndian32 eventFrame requestFrame updateFrame writeFrame frameOf frameOfText Frames.headerLength zeros callOf lineCall decimal numberLine outputLine answerLine outcomeLine executed lineOf printedFrom transcript tabulate allZero sameList H⁰ zeroFilled emptyHasher absorbFrom absorb blocks maxMessage maxDMessage maxPoolLength emptyPool value littleEndian maxCounter decode encode initial Generator.malformed Operations.fresh poolCount tooLong dirtyTail strayChain malformedPool fresh poolAt counterOf anyPool unseededReseeded strayTimer malformedFields malformed andThen inputBuffer callNumber callEffect unchanged outcome step maxSource maxData eventBytes headerLength gain full eventInput eventState eventNumber withPool addEvent blockCount Generator.maxRequest elapsed isDue due unseeded spent requestInput outputState requestNumber seedSize seedInput updateState updateNumber writeNumber
+unfolding ascii exampleInput lines linesAfter lastLine isDecimal isCapital isDigit digitValue decodeHex allDigits isHex bigEndian16 bigEndian32 eventFrame requestFrame updateFrame writeFrame frameOf frameOfText Frames.headerLength zeros callOf lineCall decimal numberLine outputLine answerLine outcomeLine executed lineOf printedFrom transcript tabulate allZero sameList H⁰ zeroFilled emptyHasher absorbFrom absorb blocks maxMessage maxDMessage maxPoolLength emptyPool value littleEndian maxCounter decode encode initial Generator.malformed Operations.fresh poolCount tooLong dirtyTail strayChain malformedPool fresh poolAt counterOf anyPool unseededReseeded strayTimer malformedFields malformed andThen inputBuffer callNumber callEffect unchanged effectOf outcome callFound step maxSource maxData eventBytes headerLength gain full eventInput eventState eventNumber withPool addEvent blockCount Generator.maxRequest elapsed isDue due unseeded spent requestInput outputState requestNumber seedSize seedInput updateState updateNumber writeNumber
 example-row = refl
 
 lines-row : LinesRow

@@ -9,7 +9,7 @@ use lib.Dec.{eqb}
 use lib.ListN.{length, drop}
 use Rattle.laws.specs.Lists.{overwrite}
 use Rattle.pools.specs.Refusals.{seedSize}
-use Rattle.pools.specs.Calls.{Call, event, request, update, write, Outcome, step}
+use Rattle.pools.specs.Calls.{Call, event, request, update, write, draw, shuffle, Outcome, step}
 use Rattle.pools.specs.declared.Fortuna.{Fortuna}
 use Rattle.bench.specs.Hexadecimal.{decodeHex, encodeHex, decimal}
 use Rattle.bench.specs.Frames.{frameOfText, headerLength}
@@ -61,12 +61,14 @@ outputLine number emptied bytes =
     (decimal number ++ (space ∷ []) ++ decimal emptied ++ spaced bytes ++ (lineFeed ∷ []))
     (numberLine number)
 
--- what is printed of a call, by its number, the pools emptied, and what the lent buffer then holds
+-- what is printed of a call, by its number, the pools emptied, and what the lent buffer then holds; no frame draws or shuffles
 unfoldable pub answerLine : Call → ℕ → ℕ → List ℕ → List ℕ
 answerLine (event source pool content) number emptied buffer = numberLine number
 answerLine (request clock before) number emptied buffer = outputLine number emptied buffer
 answerLine (update clock seed) number emptied buffer = outputLine number emptied buffer
 answerLine (write clock seed) number emptied buffer = outputLine number emptied buffer
+answerLine (draw clock n d) number emptied buffer = numberLine number
+answerLine (shuffle clock list) number emptied buffer = numberLine number
 
 -- of an outcome; the state in it is not read
 unfoldable pub outcomeLine : {S : Type 0} → Call → Outcome S → List ℕ

@@ -1,13 +1,14 @@
 -- What an accepted call has passed.
 -- Assumes nothing.
 use mathlib.Core.Path.{_≡_, refl}
-use mathlib.Core.Bool.{Bool, true, false, cond, _||_}
+use mathlib.Core.Bool.{Bool, false, cond, _||_}
 use mathlib.Core.List.{List}
-use Prim.Native.Nat.{ℕ, _+_, _-_, _≤_, _<_}
+use Prim.Native.Nat.{ℕ, _+_, _-_, _*_, _≤_, _<_}
+use native.Mathlib.Nat.{pos-of-ne-zero}
 use native.Mathlib.Omega.{arith}
 use lib.Dec.{eqb, ltb}
 use lib.ListN.{length}
-use borrow.Author.Tests.{ltb-false, eqb-true, eqb-false}
+use borrow.Author.Tests.{ltb-false, le-ltb, eqb-true, eqb-false}
 use Rattle.laws.specs.Refusals.{refuse}
 use Rattle.laws.proofs.Cases.{by-test, cond-cong}
 use Rattle.laws.proofs.Refusals.{passed}
@@ -17,7 +18,9 @@ use Rattle.generator.specs.Steps.{blockCount}
 use Rattle.generator.specs.Refusals.{maxRequest}
 use Rattle.pools.specs.Events.{maxSource, poolCount, maxData, gain}
 use Rattle.pools.specs.Pool.{full}
-use Rattle.pools.specs.Refusals.{andThen, seedSize, unseeded, spent, eventInput, eventState, eventNumber, requestInput, outputState, requestNumber, seedInput, writeNumber, updateState, updateNumber}
+use Rattle.slots.specs.Shuffle.{hasRepeat}
+use Rattle.pools.specs.Refusals.{andThen, seedSize, maxBelow, maxTries, maxList, unseeded, spent, eventInput, eventState, eventNumber, requestInput, outputState, requestNumber, seedInput, writeNumber, updateState, updateNumber, drawInput, drawNumber, listInput, shuffleState, shuffleNumber}
+use Rattle.pools.proofs.PoolTests.{neither}
 
 -- ---- two chains, one after the other
 
@@ -115,12 +118,8 @@ input-passed source pool n e =
     record {
       byte = ltb-false maxSource source (p .0);
       place = omega (arith, ltb-false 31 pool (q .0));
-      short = ltb-false maxData n (second (eqb n 0) (ltb maxData n) (l .0));
+      short = ltb-false maxData n (neither (eqb n 0) (ltb maxData n) (l .0) .1);
     }
-  where
-    second : (a b : Bool) → (a || b) ≡ false → b ≡ false
-    second true b e = cc
-    second false b e = e
 
 pub event-passed : (m : Bool) (size source pool n : ℕ) → eventNumber m size source pool n ≡ 0 → EventPassed source pool n
 unfolding eventNumber
@@ -138,3 +137,43 @@ pub event-size : (m : Bool) (size size′ source pool n : ℕ) → (pool < poolC
 unfolding eventNumber
 event-size m size size′ source pool n h =
     then-cong (eventInput source pool n) (eventState m size n) (eventState m size′ n) (λ e. rw (h (input-passed source pool n e .place)))
+
+-- ---- a draw
+
+-- a number from 1 to a limit
+from-one : (n most : ℕ) → (eqb n 0 || ltb most n) ≡ false → (0 < n) × (n ≤ most)
+from-one n most e =
+    let p = neither (eqb n 0) (ltb most n) e in
+    (pos-of-ne-zero (eqb-false n 0 (p .0)), ltb-false most n (p .1))
+
+pub draw-passed : (m : Bool) (c : ℕ) (due : Bool) (n d : ℕ) → drawNumber m c due n d ≡ 0 → OutputPassed m c due (3 * d)
+unfolding drawNumber
+draw-passed m c due n d e = output-passed m c due (3 * d) (both-passed (drawInput n d) (outputState m c due (3 * d)) e .1)
+
+pub draw-bounds : (m : Bool) (c : ℕ) (due : Bool) (n d : ℕ) → drawNumber m c due n d ≡ 0 → (0 < n) × (n ≤ maxBelow) × (0 < d) × (d ≤ maxTries)
+unfolding drawNumber drawInput
+draw-bounds m c due n d e =
+    let tried : Bool = eqb d 0 || ltb maxTries d in
+    let input = both-passed (refuse (eqb n 0 || ltb maxBelow n) 31 (refuse tried 32 0)) (outputState m c due (3 * d)) e .0 in
+    let p = passed (eqb n 0 || ltb maxBelow n) 31 (refuse tried 32 0) (omega arith) input in
+    let below = from-one n maxBelow (p .0) in
+    let times = from-one d maxTries (passed tried 32 0 (omega arith) (p .1) .0) in
+    (below .0, below .1, times .0, times .1)
+
+-- ---- a shuffle
+
+pub shuffle-passed : (m : Bool) (c : ℕ) (due : Bool) (list : List ℕ) → shuffleNumber m c due list ≡ 0 → 2 ≤ length list → OutputPassed m c due (192 * (length list - 1))
+unfolding shuffleNumber shuffleState
+shuffle-passed m c due list e h =
+    let size : ℕ = length list in
+    let b : ℕ = 192 * (size - 1) in
+    let s = both-passed (listInput list) (cond (ltb size 2) (refuse m 21 0) (outputState m c due b)) e .1 in
+    output-passed m c due b (rw (le-ltb size 2 h) at s)
+
+pub shuffle-bound : (m : Bool) (c : ℕ) (due : Bool) (list : List ℕ) → shuffleNumber m c due list ≡ 0 → length list ≤ maxList
+unfolding shuffleNumber listInput
+shuffle-bound m c due list e =
+    let wrong : Bool = ltb maxList (length list) || hasRepeat list in
+    let input = both-passed (refuse wrong 31 0) (shuffleState m c due (length list)) e .0 in
+    let p = passed wrong 31 0 (omega arith) input in
+    ltb-false maxList (length list) (neither (ltb maxList (length list)) (hasRepeat list) (p .0) .0)

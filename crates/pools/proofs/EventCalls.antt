@@ -63,11 +63,11 @@ module _ (s : Fortuna) (source pool : ℕ) (d : List ℕ) (m : Bool) (k : ℕ) (
     pub comes-gained : t ≡ true → (q : Hasher) → q ≡ absorb (poolAt s (pool % 32)) (eventBytes source d) → Comes q
     unfolding withPool
     comes-gained h q e =
-        let given = gives-done s (event source pool d) k t event-number tested 0 _ [] h (event-effect (sym tested ∙ h) q e) .0 in
+        let given = gives-done s (event source pool d) k t event-number tested tt 0 _ [] h (event-effect (sym tested ∙ h) q e) .0 in
         (given .0, sym (given .1), omega arith, given .2)
 
     pub comes-kept : t ≡ false → (q : Hasher) → q ≡ poolAt s (pool % 32) → Comes q
     unfolding withPool poolAt
     comes-kept h q e =
-        let given = gives-kept s (event source pool d) k t event-number tested h .0 in
+        let given = gives-kept s (event source pool d) k t event-number tested tt h .0 in
         (given .0, sym (given .1), omega arith, rw (e, set-getD (s .pools) (pool % 32) (record { chain = []; tail = []; length = 0 })) (given .2))

@@ -13,4 +13,10 @@ pub mod Serving
 pub mod Servables
 pub mod Outcomes
 pub mod Numbers
+pub mod EachTry
+pub mod OneReseed
+pub mod Passing
+pub mod Tries
+pub mod EveryTry
 pub mod Bounds
+pub mod Slots

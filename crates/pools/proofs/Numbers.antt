@@ -6,7 +6,7 @@ use Prim.Native.Nat.{ℕ}
 use lib.Dec.{eqb}
 use Rattle.pools.specs.Promises.{number, NumberInjective}
 use Rattle.pools.specs.declared.answer.Answer.{Answer}
-use Rattle.pools.specs.declared.answer.Answer.the-variants.{Done, SourceOutOfRange, PoolOutOfRange, DataLength, RequestTooLong, SeedSize, Malformed, PoolFull, Unseeded, CounterSpent}
+use Rattle.pools.specs.declared.answer.Answer.the-variants.{Done, SourceOutOfRange, PoolOutOfRange, DataLength, RequestTooLong, SeedSize, Malformed, PoolFull, Unseeded, CounterSpent, SlotRange, TryRange, NoneDrawn}
 
 -- the answer that a number belongs to
 answerOf : ℕ → Answer
@@ -16,7 +16,11 @@ answerOf n =
     (cond (eqb n 12) PoolOutOfRange
     (cond (eqb n 13) DataLength
     (cond (eqb n 14) RequestTooLong
-    (cond (eqb n 15) SeedSize (cond (eqb n 21) Malformed (cond (eqb n 22) PoolFull (cond (eqb n 23) Unseeded CounterSpent))))))))
+    (cond (eqb n 15) SeedSize
+    (cond (eqb n 21) Malformed
+    (cond (eqb n 22) PoolFull
+    (cond (eqb n 23) Unseeded
+    (cond (eqb n 24) CounterSpent (cond (eqb n 31) SlotRange (cond (eqb n 32) TryRange NoneDrawn)))))))))))
 
 read-back : (a : Answer) → answerOf (number a) ≡ a
 unfolding answerOf number
@@ -30,6 +34,9 @@ read-back Malformed = refl
 read-back PoolFull = refl
 read-back Unseeded = refl
 read-back CounterSpent = refl
+read-back SlotRange = refl
+read-back TryRange = refl
+read-back NoneDrawn = refl
 
 pub number-injective : NumberInjective
 number-injective a b e = sym (read-back a) ∙ ap answerOf e ∙ read-back b

@@ -1,60 +1,86 @@
 -- From what a method comes to, to the outcome of its call.
 -- Assumes nothing.
-use mathlib.Core.Path.{_≡_, ap, _∙_}
-use mathlib.Core.Bool.{Bool, true, false}
+use mathlib.Core.Path.{_≡_, refl, sym, ap, _∙_}
+use mathlib.Core.Bool.{Bool, true, false, cond}
 use mathlib.Core.List.{List}
-use Prim.Native.Nat.{ℕ}
-use lib.Dec.{eqb}
+use Prim.Native.Nat.{ℕ, zero, suc}
+use lib.Dec.{eqb, eqb·suc-zero}
 use lib.ListN.{length}
 use Rattle.laws.proofs.Refusals.{accepted}
 use Rattle.generator.specs.Steps.{decode}
 use Rattle.pools.specs.State.{counterOf, malformed, due}
-use Rattle.pools.specs.Refusals.{requestNumber, writeNumber, updateNumber}
-use Rattle.pools.specs.Effects.{Effect}
-use Rattle.pools.specs.Calls.{Call, request, update, write, inputBuffer, callNumber, callEffect, unchanged, outcome, step}
+use Rattle.pools.specs.Refusals.{andThen, requestNumber, writeNumber, updateNumber, drawNumber, shuffleNumber}
+use Rattle.pools.specs.Effects.{Effect, unchanged}
+use Rattle.pools.specs.Calls.{Call, event, request, update, write, draw, shuffle, inputBuffer, callNumber, callEffect, callFound, effectOf, outcome, step}
 use Rattle.pools.specs.declared.Fortuna.{Fortuna}
+
+-- ---- a call without draws comes to no 33
+
+abbrev pub NoDraws : Call → Type 0
+NoDraws (event source pool content) = Unit {0}
+NoDraws (request clock buffer) = Unit {0}
+NoDraws (update clock seed) = Unit {0}
+NoDraws (write clock seed) = Unit {0}
+NoDraws (draw clock n d) = ⊥
+NoDraws (shuffle clock list) = ⊥
+
+all-found : (s : Fortuna) (call : Call) → NoDraws call → callFound s call ≡ true
+unfolding callFound
+all-found s (event source pool content) h = refl
+all-found s (request clock buffer) h = refl
+all-found s (update clock seed) h = refl
+all-found s (write clock seed) h = refl
+all-found s (draw clock n d) h = absurd h
+all-found s (shuffle clock list) h = absurd h
+
+-- a chain with nothing after it
+then-nothing : (n : ℕ) → andThen n 0 ≡ n
+unfolding andThen
+then-nothing zero = refl
+then-nothing (suc n) = rw (eqb·suc-zero n)
 
 -- ---- k is the number that the code came to, d its test for a call that is done
 
 module _ (s : Fortuna) (call : Call) (k : ℕ) (d : Bool) (numbered : k ≡ callNumber s call) (tested : d ≡ eqb k 0) where
-  pub number-is : k ≡ step s call .number
-  unfolding step outcome
-  number-is = numbered
-
   pub is-accepted : d ≡ true → callNumber s call ≡ 0
   is-accepted t = accepted (callNumber s call) k d numbered tested t
 
   pub done : d ≡ true → callEffect s call ≡ step s call .effect
-  unfolding step outcome
+  unfolding step outcome effectOf
   done t = rw (← numbered, ← tested, t)
 
   pub kept : d ≡ false → unchanged (inputBuffer call) s ≡ step s call .effect
-  unfolding step outcome
+  unfolding step outcome effectOf
   kept t = rw (← numbered, ← tested, t)
 
-  -- a call with a lent buffer: done, with the emptied pools, the next state and the bytes that the effect has
-  pub gives-done : (emptied : ℕ) (next : Fortuna) (bytes : List ℕ) → d ≡ true
-      → (emptied ≡ callEffect s call .emptied) × (next ≡ callEffect s call .next) × (bytes ≡ callEffect s call .buffer)
-      → ((k ≡ step s call .number) × (emptied ≡ step s call .effect .emptied) × (next ≡ step s call .effect .next))
-      × (bytes ≡ step s call .effect .buffer)
-  gives-done emptied next bytes t (e, f, g) = (
-    (
-      number-is,
-      e ∙ ap (λ (x : Effect Fortuna). x .emptied) (done t),
-      f ∙ ap (λ (x : Effect Fortuna). x .next) (done t),
-    ),
-    g ∙ ap (λ (x : Effect Fortuna). x .buffer) (done t),
-  )
+  module _ (plain : NoDraws call) where
+    number-is : k ≡ step s call .number
+    unfolding step outcome
+    number-is = numbered ∙ sym (then-nothing (callNumber s call)) ∙ ap (λ (t : Bool). andThen (callNumber s call) (cond t 0 33)) (sym (all-found s call plain))
 
-  -- and refused: none, the same state and the same bytes
-  pub gives-kept : d ≡ false
-      → ((k ≡ step s call .number) × (0 ≡ step s call .effect .emptied) × (s ≡ step s call .effect .next))
-      × (inputBuffer call ≡ step s call .effect .buffer)
-  unfolding unchanged
-  gives-kept t = (
-    (number-is, ap (λ (x : Effect Fortuna). x .emptied) (kept t), ap (λ (x : Effect Fortuna). x .next) (kept t)),
-    ap (λ (x : Effect Fortuna). x .buffer) (kept t),
-  )
+    -- a call with a lent buffer: done, with the emptied pools, the next state and the bytes that the effect has
+    pub gives-done : (emptied : ℕ) (next : Fortuna) (bytes : List ℕ) → d ≡ true
+        → (emptied ≡ callEffect s call .emptied) × (next ≡ callEffect s call .next) × (bytes ≡ callEffect s call .buffer)
+        → ((k ≡ step s call .number) × (emptied ≡ step s call .effect .emptied) × (next ≡ step s call .effect .next))
+        × (bytes ≡ step s call .effect .buffer)
+    gives-done emptied next bytes t (e, f, g) = (
+      (
+        number-is,
+        e ∙ ap (λ (x : Effect Fortuna). x .emptied) (done t),
+        f ∙ ap (λ (x : Effect Fortuna). x .next) (done t),
+      ),
+      g ∙ ap (λ (x : Effect Fortuna). x .buffer) (done t),
+    )
+
+    -- and refused: none, the same state and the same bytes
+    pub gives-kept : d ≡ false
+        → ((k ≡ step s call .number) × (0 ≡ step s call .effect .emptied) × (s ≡ step s call .effect .next))
+        × (inputBuffer call ≡ step s call .effect .buffer)
+    unfolding unchanged
+    gives-kept t = (
+      (number-is, ap (λ (x : Effect Fortuna). x .emptied) (kept t), ap (λ (x : Effect Fortuna). x .next) (kept t)),
+      ap (λ (x : Effect Fortuna). x .buffer) (kept t),
+    )
 
 -- ---- the number of each call, from the tests that the code made
 
@@ -70,3 +96,11 @@ module _ (s : Fortuna) (clock : ℕ) (m d : Bool) (k : ℕ) (formed : m ≡ malf
   pub update-number : (seed : List ℕ) → k ≡ updateNumber m (decode (s .generator) .count) d seed → k ≡ callNumber s (update clock seed)
   unfolding callNumber counterOf
   update-number seed e = rw (← formed, ← timed) e
+
+  pub draw-number : (n times : ℕ) → k ≡ drawNumber m (decode (s .generator) .count) d n times → k ≡ callNumber s (draw clock n times)
+  unfolding callNumber counterOf
+  draw-number n times e = rw (← formed, ← timed) e
+
+  pub shuffle-number : (list : List ℕ) → k ≡ shuffleNumber m (decode (s .generator) .count) d list → k ≡ callNumber s (shuffle clock list)
+  unfolding callNumber counterOf
+  shuffle-number list e = rw (← formed, ← timed) e

@@ -1,7 +1,7 @@
 -- An accepted call can be served.
 -- Assumes nothing.
 use mathlib.Core.Path.{_≡_, refl, _∙_}
-use mathlib.Core.Bool.{Bool, true, false, cond, not, _||_}
+use mathlib.Core.Bool.{Bool, true, false, cond, _||_}
 use mathlib.Core.List.{List}
 use Prim.Native.Nat.{ℕ, _+_, _≤_}
 use native.Mathlib.Omega.{arith}
@@ -38,7 +38,7 @@ module _ (s : Fortuna) (fine : malformed s ≡ false) where
   unfolding malformed
   pools-formed = neither (anyPool malformedPool (s .pools)) (malformedFields (decode (s .generator)) (s .reseeded) (s .«last_reseed») (s .«reseed_count»)) fine .0
 
-  fields-formed : malformedFields (decode (s .generator)) (s .reseeded) (s .«last_reseed») (s .«reseed_count») ≡ false
+  pub fields-formed : malformedFields (decode (s .generator)) (s .reseeded) (s .«last_reseed») (s .«reseed_count») ≡ false
   unfolding malformed
   fields-formed = neither (anyPool malformedPool (s .pools)) (malformedFields (decode (s .generator)) (s .reseeded) (s .«last_reseed») (s .«reseed_count»)) fine .1
 

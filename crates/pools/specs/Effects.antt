@@ -1,7 +1,7 @@
 -- What an accepted call does to a state (004, 9.5 and 9.6), with no test of its arguments.
 -- Assumes nothing.
 use mathlib.Core.Bool.{true, cond}
-use mathlib.Core.List.{List}
+use mathlib.Core.List.{List, []}
 use Prim.Native.Nat.{ℕ, _+_, _%_, _^_}
 use lib.ListN.{length, set}
 use Rattle.laws.specs.Lists.{tabulate, joined}
@@ -22,6 +22,10 @@ pub record Effect (S : Type 0) : Type 0 where
   pub buffer : List ℕ
   pub next : S
   pub trace : List (List ℕ)
+
+-- what a call that does nothing leaves
+unfoldable pub unchanged : {S : Type 0} → List ℕ → S → Effect S
+unchanged buffer s = record { emptied = 0; buffer = buffer; next = s; trace = [] }
 
 -- the state with another pool i, with another generator
 unfoldable pub withPool : Fortuna → ℕ → Hasher → Fortuna

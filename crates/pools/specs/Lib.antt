@@ -4,7 +4,10 @@ pub mod Pool
 pub mod State
 pub mod Refusals
 pub mod Effects
+pub mod Draws
 pub mod Calls
+pub mod Tries
+pub mod Slots
 pub mod Masks
 pub mod Collected
 pub mod Promises

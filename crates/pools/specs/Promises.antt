@@ -9,7 +9,7 @@ use Rattle.pools.specs.declared.Fortuna.{Fortuna}
 use Rattle.pools.specs.declared.Gain.{Gain}
 use Rattle.pools.specs.declared.Outcome.{Outcome}
 use Rattle.pools.specs.declared.answer.Answer.{Answer}
-use Rattle.pools.specs.declared.answer.Answer.the-variants.{Done, SourceOutOfRange, PoolOutOfRange, DataLength, RequestTooLong, SeedSize, Malformed, PoolFull, Unseeded, CounterSpent}
+use Rattle.pools.specs.declared.answer.Answer.the-variants.{Done, SourceOutOfRange, PoolOutOfRange, DataLength, RequestTooLong, SeedSize, Malformed, PoolFull, Unseeded, CounterSpent, SlotRange, TryRange, NoneDrawn}
 
 -- 01's number of an answer, 0 where the call was done
 unfoldable pub number : Answer → ℕ
@@ -23,6 +23,9 @@ number Malformed = 21
 number PoolFull = 22
 number Unseeded = 23
 number CounterSpent = 24
+number SlotRange = 31
+number TryRange = 32
+number NoneDrawn = 33
 
 -- different answers have different numbers
 abbrev pub NumberInjective : Type 0
@@ -35,6 +38,11 @@ Gives o r = (number (r .answer) ≡ o .number) × (r .emptied ≡ o .effect .emp
 -- and the lent buffer holds what it says
 abbrev pub GivesBytes : Calls.Outcome Fortuna → Outcome → List ℕ → Type 0
 GivesBytes o r out = Gives o r × (out ≡ o .effect .buffer)
+
+-- a draw: its number, the pools emptied, the value drawn, and the next state
+abbrev pub GivesValue : Calls.Outcome Fortuna → Answer → ℕ → ℕ → Fortuna → Type 0
+GivesValue o answer emptied value next =
+    (number answer ≡ o .number) × (emptied ≡ o .effect .emptied) × (value ≡ o .value) × (next ≡ o .effect .next)
 
 -- what an event comes to on the state s: its number, no pool emptied, and the one pool by which the next state differs from s
 abbrev pub Gains : Calls.Outcome Fortuna → Fortuna → Gain → Type 0

@@ -3,7 +3,7 @@
 -- Assumes nothing.
 use mathlib.Core.Bool.{Bool, cond, not, _&&_, _||_}
 use mathlib.Core.List.{List}
-use Prim.Native.Nat.{ℕ, _+_, _-_}
+use Prim.Native.Nat.{ℕ, _+_, _-_, _*_, _^_}
 use lib.Dec.{eqb, ltb}
 use lib.ListN.{length}
 use Rattle.laws.specs.Refusals.{refuse}
@@ -11,6 +11,7 @@ use Rattle.generator.specs.Counter.{maxCounter}
 use Rattle.generator.specs.Steps.{blockCount}
 use Rattle.generator.specs.Refusals.{maxRequest}
 use Rattle.pools.specs.Events.{maxSource, poolCount, maxData, gain}
+use Rattle.slots.specs.Shuffle.{hasRepeat}
 use Rattle.pools.specs.Pool.{full}
 
 -- the first chain's number, or the second's where the first has none
@@ -20,6 +21,16 @@ andThen first second = cond (eqb first 0) second first
 -- the size of a seed
 unfoldable pub seedSize : ℕ
 seedSize = 64
+
+-- the largest n of a draw, the most tries, the most numbers of a list
+unfoldable pub maxBelow : ℕ
+maxBelow = 2 ^ 32
+
+unfoldable pub maxTries : ℕ
+maxTries = 64
+
+unfoldable pub maxList : ℕ
+maxList = 256
 
 -- 23: C = 0 and no pool reseed due
 unfoldable pub unseeded : ℕ → Bool → Bool
@@ -66,3 +77,21 @@ updateState malformed c due = refuse malformed 21 (refuse (spent c due 7) 24 0)
 
 unfoldable pub updateNumber : Bool → ℕ → Bool → List ℕ → ℕ
 updateNumber malformed c due seed = andThen (seedInput seed) (updateState malformed c due)
+
+-- ---- draws below n with d tries, and shuffles of a list
+
+unfoldable pub drawInput : ℕ → ℕ → ℕ
+drawInput n d = refuse (eqb n 0 || ltb maxBelow n) 31 (refuse (eqb d 0 || ltb maxTries d) 32 0)
+
+unfoldable pub drawNumber : Bool → ℕ → Bool → ℕ → ℕ → ℕ
+drawNumber malformed c due n d = andThen (drawInput n d) (outputState malformed c due (3 * d))
+
+unfoldable pub listInput : List ℕ → ℕ
+listInput list = refuse (ltb maxList (length list) || hasRepeat list) 31 0
+
+-- a list of m numbers; below 2 it makes no request, so 23 and 24 do not apply
+unfoldable pub shuffleState : Bool → ℕ → Bool → ℕ → ℕ
+shuffleState malformed c due m = cond (ltb m 2) (refuse malformed 21 0) (outputState malformed c due (192 * (m - 1)))
+
+unfoldable pub shuffleNumber : Bool → ℕ → Bool → List ℕ → ℕ
+shuffleNumber malformed c due list = andThen (listInput list) (shuffleState malformed c due (length list))

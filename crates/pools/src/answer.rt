@@ -14,6 +14,9 @@ pub enum Answer {
     PoolFull,
     Unseeded,
     CounterSpent,
+    SlotRange,
+    TryRange,
+    NoneDrawn,
 }
 
 impl Answer {
@@ -32,6 +35,9 @@ impl Answer {
             Answer::PoolFull => 22,
             Answer::Unseeded => 23,
             Answer::CounterSpent => 24,
+            Answer::SlotRange => 31,
+            Answer::TryRange => 32,
+            Answer::NoneDrawn => 33,
         }
     }
 

@@ -9,8 +9,10 @@ pub use answer::Answer;
 use events::gained;
 use generator::Generator;
 use hash::Hasher;
+use refusals::draw_answer;
 use refusals::event_answer;
 use refusals::request_answer;
+use refusals::shuffle_answer;
 use refusals::update_answer;
 use refusals::write_answer;
 use schedule::collect_digests;
@@ -23,9 +25,9 @@ ghost use lib.ListN.{length};
 ghost use Rattle.pools.specs.State.{fresh, malformed, due};
 ghost use Rattle.pools.specs.Schedule.{usedPools};
 ghost use Rattle.pools.specs.Effects.{nextReseed, poolReseed, randomData};
-ghost use Rattle.pools.specs.Calls.{event, request, update, write, step};
+ghost use Rattle.pools.specs.Calls.{event, request, update, write, draw, shuffle, callNumber, step};
 ghost use Rattle.pools.specs.Collected.{Reseedable, Servable};
-ghost use Rattle.pools.specs.Promises.{Gives, GivesBytes, Gains};
+ghost use Rattle.pools.specs.Promises.{number, Gives, GivesBytes, Gains};
 
 // The state. last_reseed is the clock at the last pool reseed, reseed_count their number modulo 2^32, reseeded whether one was made.
 #[repr(C)]
@@ -264,5 +266,23 @@ impl Fortuna {
             emptied: emptied,
             next: self,
         }
+    }
+
+    // The answer to a draw below n with d tries, as its one check gives it before the tries: it is never 33.
+    pub fn draw_answer(self, clock: u32, n: u64, d: u32) -> Answer
+        ensures { λ r. ⌜ number r ≡ callNumber self (draw clock n d) ⌝ }
+    {
+        let malformed = self.is_malformed();
+        let reseeds = self.is_due(clock);
+        draw_answer(malformed, self.generator, reseeds, n, d)
+    }
+
+    // The answer to a shuffle of the list, likewise.
+    pub fn shuffle_answer(self, clock: u32, list: &[u16]) -> Answer
+        ensures { λ r. ⌜ number r ≡ callNumber self (shuffle clock (now (list .entry))) ⌝ }
+    {
+        let malformed = self.is_malformed();
+        let reseeds = self.is_due(clock);
+        shuffle_answer(malformed, self.generator, reseeds, list)
     }
 }

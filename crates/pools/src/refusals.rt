@@ -5,12 +5,13 @@ use crate::events::MAX_DATA;
 use generator::Generator;
 use generator::block_count;
 use generator::max_request;
+use slots::has_repeat;
 ghost use mathlib.Core.Path.{_≡_};
 ghost use mathlib.Core.Bool.{cond};
 ghost use Prim.Native.Nat.{_+_, _≤_};
 ghost use Rattle.generator.specs.Steps.{decode};
 ghost use Rattle.pools.specs.Pool.{full};
-ghost use Rattle.pools.specs.Refusals.{unseeded, spent, eventNumber, outputState, requestNumber, writeNumber, updateNumber};
+ghost use Rattle.pools.specs.Refusals.{unseeded, spent, eventNumber, outputState, requestNumber, writeNumber, updateNumber, drawNumber, shuffleNumber};
 ghost use Rattle.pools.specs.Promises.{number};
 
 const MAX_SOURCE: u32 = 255;
@@ -19,6 +20,13 @@ const LAST_POOL: u32 = 31;
 
 // The bytes of a seed.
 pub(crate) const SEED_SIZE: usize = 64;
+
+// The largest n of a draw, the most tries, and the most numbers of a list.
+const MAX_BELOW: u64 = 4294967296;
+
+const MAX_TRIES: u32 = 64;
+
+const MAX_LIST: usize = 256;
 
 // Whether a pool of `size` bytes has no room for n more. The sum itself might not fit.
 fn is_full(size: u64, n: u64) -> bool
@@ -133,4 +141,54 @@ pub(crate) fn update_answer(malformed: bool, generator: Generator, due: bool, se
         return Answer::CounterSpent;
     }
     Answer::Done
+}
+
+// The answer to a draw below n with d tries, as its check gives it: 33 comes only of the tries.
+pub(crate) fn draw_answer(
+    malformed: bool,
+    generator: Generator,
+    due: bool,
+    n: u64,
+    d: u32,
+) -> Answer
+    ensures { λ r. ⌜ number r ≡ drawNumber malformed (decode generator .count) due n d ⌝ }
+{
+    if n == 0 {
+        return Answer::SlotRange;
+    }
+    if n > MAX_BELOW {
+        return Answer::SlotRange;
+    }
+    if d == 0 {
+        return Answer::TryRange;
+    }
+    if d > MAX_TRIES {
+        return Answer::TryRange;
+    }
+    output_answer(malformed, generator, due, 3 * d)
+}
+
+// The answer to a shuffle of the list, likewise. A list that is too long is not searched for repeats.
+pub(crate) fn shuffle_answer(
+    malformed: bool,
+    generator: Generator,
+    due: bool,
+    list: &[u16],
+) -> Answer
+    ensures { λ r. ⌜ number r ≡ shuffleNumber malformed (decode generator .count) due (now (list .entry)) ⌝ }
+{
+    let count = list.len();
+    if count > MAX_LIST {
+        return Answer::SlotRange;
+    }
+    if has_repeat(list) {
+        return Answer::SlotRange;
+    }
+    if count < 2 {
+        if malformed {
+            return Answer::Malformed;
+        }
+        return Answer::Done;
+    }
+    output_answer(malformed, generator, due, 192 * (count - 1) as u32)
 }

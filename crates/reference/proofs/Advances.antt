@@ -1,95 +1,63 @@
 -- What a call does to R, to the mark and to the events of the reference model: an accepted event is appended, any other accepted call
--- advances the timer at its reading.
+-- moves the timer at its reading where a pool reseed is due.
 -- Assumes nothing.
 use mathlib.Core.Path.{_≡_, refl, ap, _∙_}
-use mathlib.Core.Bool.{Bool, true, false, cond}
+use mathlib.Core.Bool.{Bool, true, false, cond, _&&_}
 use mathlib.Core.List.{List, [], _∷_, map}
 use Prim.Native.Nat.{ℕ, zero, suc, _+_}
 use native.Mathlib.Omega.{arith}
 use lib.Dec.{ltb, eqb·suc-zero}
 use lib.ListN.{length}
-use borrow.Author.Tests.{lt-ltb}
-use Rattle.generator.specs.Steps.{GeneratorState}
-use Rattle.pools.specs.declared.Fortuna.{Fortuna}
+use borrow.Author.Tests.{ltb-true, ltb-false, lt-ltb}
+use Rattle.laws.proofs.Cases.{by-test}
 use Rattle.pools.specs.Events.{eventBytes}
 use Rattle.pools.specs.Schedule.{usedPools}
-use Rattle.pools.specs.State.{due}
-use Rattle.pools.specs.Effects.{Effect}
-use Rattle.pools.specs.Calls.{Call, event, request, update, write, unchanged, outcome, run, runFrom, stateFrom}
-use Rattle.reference.specs.Reference.{Reference, empty, poolContents, dueAt, appendEvent, withState, referenceReseed, referenceReseedIfDue, referenceCount, referenceRequest, referenceEffect, referenceStep, referenceRun, referenceAfter}
+use Rattle.pools.specs.Effects.{Effect, unchanged}
+use Rattle.pools.specs.Draws.{tries, shuffled}
+use Rattle.pools.specs.Calls.{Call, event, request, update, write, draw, shuffle, effectOf, outcome, run, runFrom, stateFrom}
+use Rattle.pools.proofs.EachTry.{idle-shuffle}
+use Rattle.reference.specs.Reference.{Reference, empty, dueAt, appendEvent, referenceCount, referenceRequest, referenceTry, referenceEffect, referenceStep, referenceRun, referenceAfter}
 use Rattle.reference.specs.Agreement.{concreteOutcome}
-use Rattle.reference.specs.Timer.{readingOf, poolReseeds, reseedsAfter}
-use Rattle.reference.specs.Provenance.{dueFor, putsInto}
+use Rattle.reference.specs.Timer.{requests, readingOf, poolReseeds, reseedsAfter}
+use Rattle.reference.specs.Provenance.{putsInto}
 use Rattle.reference.proofs.Schedule.{used-some}
-
--- ---- a request at a reading
-
-pub record Advanced (b : Reference) (clock : ℕ) (x : Reference) : Type 0 where
-  pub reseeds : x .reseeds ≡ b .reseeds + cond (dueAt b clock) 1 0
-  pub mark : x .lastReseed ≡ cond (dueAt b clock) clock (b .lastReseed)
-  pub events : x .events ≡ b .events
-
-pub reseed-advances : (b : Reference) (clock : ℕ) → Advanced b clock (referenceReseedIfDue b clock)
-reseed-advances b clock =
-    record {
-      reseeds = unfold referenceReseedIfDue in count (dueAt b clock);
-      mark = unfold referenceReseedIfDue in moved (dueAt b clock);
-      events = unfold referenceReseedIfDue in kept (dueAt b clock);
-    }
-  where
-    count : (d : Bool) → cond d (referenceReseed b clock) b .reseeds ≡ b .reseeds + cond d 1 0
-    count true = unfold referenceReseed in refl
-    count false = omega arith
-
-    moved : (d : Bool) → cond d (referenceReseed b clock) b .lastReseed ≡ cond d clock (b .lastReseed)
-    moved true = unfold referenceReseed in refl
-    moved false = refl
-
-    kept : (d : Bool) → cond d (referenceReseed b clock) b .events ≡ b .events
-    kept true = unfold referenceReseed in refl
-    kept false = refl
-
-pub request-advances : (b : Reference) (clock n : ℕ) → Advanced b clock (referenceRequest b clock n .next)
-unfolding referenceRequest withState
-request-advances b clock n =
-    let a = reseed-advances b clock in
-    record { reseeds = a .reseeds; mark = a .mark; events = a .events }
-
-module _ (b : Reference) (w : GeneratorState) (clock : ℕ) where
-  pub state-due : dueAt (withState b w) clock ≡ dueAt b clock
-  unfolding withState dueAt poolContents
-  state-due = refl
-
-  pub state-advances : (n : ℕ) → Advanced b clock (referenceRequest (withState b w) clock n .next)
-  unfolding withState
-  state-advances n =
-      let a = request-advances (withState b w) clock n in
-      record {
-        reseeds = a .reseeds ∙ ap (λ (d : Bool). b .reseeds + cond d 1 0) state-due;
-        mark = a .mark ∙ ap (λ (d : Bool). cond d clock (b .lastReseed)) state-due;
-        events = a .events;
-      }
+use Rattle.reference.proofs.Moves.{Moved, reseed-moves, request-moves, state-due, state-moves, draw-first, shuffle-first}
 
 -- ---- an accepted call
+
+-- the model finds a pool reseed due for it
+unfoldable pub dueCall : Reference → Call → Bool
+dueCall b c = requests c && dueAt b (readingOf c)
 
 pub data Shape (place : ℕ) (b : Reference) (c : Call) (x : Reference) : Type 0 where
   appended :
       (source pool : ℕ) (content : List ℕ) → c ≡ event source pool content →
       x ≡ appendEvent place b pool (eventBytes source content) → Shape place b c x
-  advanced :
-      ((s : Fortuna) → dueFor s c ≡ due s (readingOf c)) → ((i : ℕ) → putsInto place c i ≡ []) →
-      Advanced b (readingOf c) x → Shape place b c x
+  moved : ((i : ℕ) → putsInto place c i ≡ []) → Moved b (dueCall b c) (readingOf c) x → Shape place b c x
+
+-- a draw without tries and a shuffle of fewer than 2 numbers leave the model as it is
+draw-moves : (clock n d : ℕ) (b : Reference) → Moved b (ltb 0 d && dueAt b clock) clock (tries (referenceTry clock) n d b .effect .next)
+draw-moves clock n zero b = unfold tries unchanged in reseed-moves b clock false
+draw-moves clock n (suc d) b = rw (lt-ltb 0 (suc d) (omega arith)) (draw-first clock n d b .0)
+
+shuffle-moves : (clock : ℕ) (list : List ℕ) (b : Reference) → Moved b (ltb 1 (length list) && dueAt b clock) clock (shuffled (referenceTry clock) list b .effect .next)
+shuffle-moves clock list b =
+    by-test (ltb 1 (length list)) _
+    (λ t. rw t (shuffle-first clock list b (ltb-true 1 (length list) t) .0))
+    (λ t. rw (t, idle-shuffle (referenceTry clock) list b (ltb-false 1 (length list) t)) (unfold unchanged in reseed-moves b clock false))
 
 pub effect-shape : (place : ℕ) (b : Reference) (c : Call) → Shape place b c (referenceEffect place b c .next)
-unfolding referenceEffect dueFor readingOf putsInto
+unfolding referenceEffect dueCall requests readingOf putsInto
 effect-shape place b (event source pool content) = appended source pool content refl refl
-effect-shape place b (request clock buffer) = advanced (λ s. refl) (λ i. refl) (request-advances b clock (length buffer))
-effect-shape place b (update clock seed) = advanced (λ s. refl) (λ i. refl) (state-advances b _ clock _)
-effect-shape place b (write clock seed) = advanced (λ s. refl) (λ i. refl) (request-advances b clock _)
+effect-shape place b (request clock buffer) = moved (λ i. refl) (request-moves b clock (length buffer))
+effect-shape place b (update clock seed) = moved (λ i. refl) (state-moves b _ clock _)
+effect-shape place b (write clock seed) = moved (λ i. refl) (request-moves b clock _)
+effect-shape place b (draw clock n d) = moved (λ i. refl) (draw-moves clock n d b)
+effect-shape place b (shuffle clock list) = moved (λ i. refl) (shuffle-moves clock list b)
 
 -- ---- the count of pools emptied tells whether a pool reseed was made
 
-pub count-due : (b : Reference) (clock : ℕ) → ltb 0 (referenceCount b clock) ≡ dueAt b clock
+count-due : (b : Reference) (clock : ℕ) → ltb 0 (referenceCount b clock) ≡ dueAt b clock
 unfolding referenceCount
 count-due b clock = go (dueAt b clock)
   where
@@ -97,47 +65,52 @@ count-due b clock = go (dueAt b clock)
     go true = lt-ltb 0 _ (used-some (b .reseeds + 1))
     go false = refl
 
--- the model finds a pool reseed due for an accepted call
-unfoldable pub dueCall : Reference → Call → Bool
-dueCall b (event source pool content) = false
-dueCall b (request clock buffer) = dueAt b clock
-dueCall b (update clock seed) = dueAt b clock
-dueCall b (write clock seed) = dueAt b clock
+draw-emptied : (clock n d : ℕ) (b : Reference) → ltb 0 (tries (referenceTry clock) n d b .effect .emptied) ≡ (ltb 0 d && dueAt b clock)
+draw-emptied clock n zero b = unfold tries unchanged in refl
+draw-emptied clock n (suc d) b = rw (lt-ltb 0 (suc d) (omega arith), draw-first clock n d b .1) (count-due b clock)
 
-pub effect-emptied : (place : ℕ) (b : Reference) (c : Call) → ltb 0 (referenceEffect place b c .emptied) ≡ dueCall b c
-unfolding referenceEffect dueCall referenceRequest
+shuffle-emptied : (clock : ℕ) (list : List ℕ) (b : Reference) → ltb 0 (shuffled (referenceTry clock) list b .effect .emptied) ≡ (ltb 1 (length list) && dueAt b clock)
+shuffle-emptied clock list b =
+    by-test (ltb 1 (length list)) _
+    (λ t. rw (t, shuffle-first clock list b (ltb-true 1 (length list) t) .1) (count-due b clock))
+    (λ t. rw (t, idle-shuffle (referenceTry clock) list b (ltb-false 1 (length list) t)) (unfold unchanged in refl))
+
+effect-emptied : (place : ℕ) (b : Reference) (c : Call) → ltb 0 (referenceEffect place b c .emptied) ≡ dueCall b c
+unfolding referenceEffect dueCall requests readingOf referenceRequest
 effect-emptied place b (event source pool content) = refl
 effect-emptied place b (request clock buffer) = count-due b clock
 effect-emptied place b (update clock seed) = count-due _ clock ∙ state-due b _ clock
 effect-emptied place b (write clock seed) = count-due b clock
+effect-emptied place b (draw clock n d) = draw-emptied clock n d b
+effect-emptied place b (shuffle clock list) = shuffle-emptied clock list b
 
-pub effect-reseeds : (place : ℕ) (b : Reference) (c : Call) → referenceEffect place b c .next .reseeds ≡ b .reseeds + cond (dueCall b c) 1 0
-unfolding referenceEffect dueCall appendEvent
-effect-reseeds place b (event source pool content) = omega arith
-effect-reseeds place b (request clock buffer) = request-advances b clock _ .reseeds
-effect-reseeds place b (update clock seed) = state-advances b _ clock _ .reseeds
-effect-reseeds place b (write clock seed) = request-advances b clock _ .reseeds
+shape-reseeds : (place : ℕ) (b : Reference) (c : Call) (x : Reference) → Shape place b c x → x .reseeds ≡ b .reseeds + cond (dueCall b c) 1 0
+shape-reseeds place b c x (appended source pool content q e) = rw (q, e) (unfold dueCall requests appendEvent in omega arith)
+shape-reseeds place b c x (moved p m) = m .reseeds
+
+effect-reseeds : (place : ℕ) (b : Reference) (c : Call) → referenceEffect place b c .next .reseeds ≡ b .reseeds + cond (dueCall b c) 1 0
+effect-reseeds place b c = shape-reseeds place b c _ (effect-shape place b c)
 
 -- ---- refused or not
 
 -- the effect of an accepted call
-pub outcome-done : {S : Type 0} (n : ℕ) (buffer : List ℕ) (s : S) (done : Effect S) → n ≡ 0 → outcome n buffer s done .effect ≡ done
-unfolding outcome
+pub outcome-done : {S : Type 0} (n : ℕ) (buffer : List ℕ) (s : S) (done : Effect S) → n ≡ 0 → effectOf n buffer s done ≡ done
+unfolding effectOf
 outcome-done n buffer s done e = rw e
 
 -- what holds of the state found, and of the state left if accepted, holds of the state left
 pub outcome-keeps :
     {S : Type 0} (P : S → Type 0) (n : ℕ) (buffer : List ℕ) (s : S) (done : Effect S) →
-    P s → (n ≡ 0 → P (done .next)) → P (outcome n buffer s done .effect .next)
-unfolding outcome unchanged
+    P s → (n ≡ 0 → P (done .next)) → P (effectOf n buffer s done .next)
+unfolding effectOf unchanged
 outcome-keeps P zero buffer s done h k = k refl
 outcome-keeps P (suc n) buffer s done h k = rw (eqb·suc-zero n) h
 
 outcome-reseeds :
     (n : ℕ) (buffer : List ℕ) (b : Reference) (done : Effect Reference) →
     done .next .reseeds ≡ b .reseeds + cond (ltb 0 (done .emptied)) 1 0 →
-    outcome n buffer b done .effect .next .reseeds ≡ b .reseeds + cond (ltb 0 (outcome n buffer b done .effect .emptied)) 1 0
-unfolding outcome unchanged
+    effectOf n buffer b done .next .reseeds ≡ b .reseeds + cond (ltb 0 (effectOf n buffer b done .emptied)) 1 0
+unfolding effectOf unchanged
 outcome-reseeds zero buffer b done h = h
 outcome-reseeds (suc n) buffer b done h = rw (eqb·suc-zero n) (omega arith)
 
@@ -145,7 +118,7 @@ outcome-reseeds (suc n) buffer b done h = rw (eqb·suc-zero n) (omega arith)
 pub step-reseeds :
     (place : ℕ) (b : Reference) (c : Call) →
     referenceStep place b c .effect .next .reseeds ≡ b .reseeds + cond (ltb 0 (referenceStep place b c .effect .emptied)) 1 0
-unfolding referenceStep
+unfolding referenceStep outcome
 step-reseeds place b c = outcome-reseeds _ _ b _ (rw (effect-emptied place b c) (effect-reseeds place b c))
 
 -- ---- R is the number of calls that emptied a pool

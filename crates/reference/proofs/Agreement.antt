@@ -3,12 +3,13 @@
 use mathlib.Core.Path.{_≡_, refl, sym, ap, ap₂, _∙_}
 use mathlib.Core.Bool.{Bool, true, false, cond}
 use mathlib.Core.List.{List, [], _∷_, _++_, map}
-use Prim.Native.Nat.{ℕ, suc, _+_}
+use Prim.Native.Nat.{ℕ, suc, _-_, _*_, _<_}
 use native.Mathlib.Omega.{arith}
-use lib.Dec.{eqb}
+use lib.Dec.{eqb, ltb}
 use lib.ListN.{length}
-use borrow.Author.Tests.{eqb-true}
+use borrow.Author.Tests.{ltb-true, ltb-false, eqb-true}
 use Rattle.laws.specs.Refusals.{guarded}
+use Rattle.laws.proofs.Cases.{by-test, cond-cong}
 use Rattle.laws.proofs.Lists.{replicate-tabulate}
 use Rattle.hash.specs.Double.{emptyPool, poolOf}
 use Rattle.hash.proofs.Laws.{pool-empty}
@@ -17,17 +18,21 @@ use Rattle.generator.specs.Operations as Operations
 use Rattle.pools.specs.declared.Fortuna.{Fortuna}
 use Rattle.pools.specs.Events.{poolCount, eventBytes, gain, headerLength}
 use Rattle.pools.specs.State.{fresh, counterOf, malformed, due}
-use Rattle.pools.specs.Refusals.{seedSize, requestNumber, updateNumber, writeNumber}
-use Rattle.pools.specs.Effects.{Effect, writeSeed}
-use Rattle.pools.specs.Calls.{Call, event, request, update, write, inputBuffer, callNumber, callEffect, unchanged, Outcome, outcome, step, runFrom, stateFrom, run, stateAfter}
-use Rattle.reference.specs.Reference.{Reference, empty, poolContents, dueAt, referenceNumber, referenceEffect, referenceStep, referenceRun, referenceAfter}
+use Rattle.pools.specs.Refusals.{andThen, seedSize, maxTries, requestNumber, updateNumber, writeNumber, drawNumber, shuffleNumber}
+use Rattle.pools.specs.Effects.{Effect, unchanged, writeSeed}
+use Rattle.pools.specs.Draws.{Drawn, tries, shuffled, tryAt}
+use Rattle.pools.specs.Calls.{Call, event, request, update, write, draw, shuffle, inputBuffer, callNumber, callEffect, callFound, callValue, Outcome, effectOf, outcome, step, runFrom, stateFrom, run, stateAfter}
+use Rattle.reference.specs.Reference.{Reference, empty, poolContents, dueAt, referenceTry, referenceNumber, referenceEffect, referenceFound, referenceValue, referenceStep, referenceRun, referenceAfter}
 use Rattle.reference.specs.Agreement.{concrete, concreteOutcome, RunIsSteps, Agrees}
 use Rattle.reference.proofs.Invariant.{Sound, sound-empty, sound-event, empty-contents}
 use Rattle.reference.proofs.Concrete.{size-concrete, counter-concrete, due-concrete, malformed-concrete}
-use Rattle.pools.proofs.Acceptance.{event-passed, event-room, event-size, request-room, write-room, update-room}
+use Rattle.pools.proofs.Acceptance.{then-cong, not-spent, event-passed, event-room, event-size, request-room, write-room, update-room, draw-passed, shuffle-passed}
+use Rattle.pools.proofs.EachTry.{idle-shuffle}
 use Rattle.reference.proofs.Advances.{outcome-keeps}
 use Rattle.reference.proofs.Simulation.{concreteEffect, add-event-concrete}
 use Rattle.reference.proofs.Requests.{request-agrees, request-sound, update-agrees, update-sound}
+use Rattle.reference.proofs.Carried.{carried}
+use Rattle.reference.proofs.Draws.{concreteDrawn, Ready, tries-agree, shuffle-agrees}
 
 -- ---- each call: the number, and the effect if it is accepted
 
@@ -46,6 +51,53 @@ module _ (b : Reference) (s : Sound b) where
   number-agrees (request t buffer) = by-reading requestNumber t (length buffer)
   number-agrees (update t seed) = by-reading updateNumber t seed
   number-agrees (write t seed) = by-reading writeNumber t seed
+  number-agrees (draw t n d) = by-reading (λ m c due x. drawNumber m c due n x) t d
+  number-agrees (shuffle t list) = by-reading shuffleNumber t list
+
+  -- an accepted draw has room for its tries, and an accepted shuffle for those of all its draws
+  draw-ready : (t n d : ℕ) → referenceNumber b (draw t n d) ≡ 0 → Ready t b d
+  unfolding referenceNumber
+  draw-ready t n d e = record { sound = s; room = not-spent _ _ (3 * d) (draw-passed false _ _ n d e .room) }
+
+  shuffle-ready : (t : ℕ) (list : List ℕ) → referenceNumber b (shuffle t list) ≡ 0 → 1 < length list → Ready t b (maxTries * (length list - 1))
+  unfolding referenceNumber maxTries
+  shuffle-ready t list e h =
+      let room = not-spent _ _ (192 * (length list - 1)) (shuffle-passed false _ _ list e h .room) in
+      record { sound = s; room = omega (arith, room) }
+
+  -- what its draws come to; a call that makes none finds no value missing
+  drawn-agree : (t n d : ℕ) → referenceNumber b (draw t n d) ≡ 0 → tries (tryAt t) n d (concrete b) ≡ concreteDrawn (tries (referenceTry t) n d b)
+  drawn-agree t n d e = tries-agree t n d b (draw-ready t n d e) .0
+
+  drawn-sound : (t n d : ℕ) → referenceNumber b (draw t n d) ≡ 0 → Sound (tries (referenceTry t) n d b .effect .next)
+  drawn-sound t n d e = tries-agree t n d b (draw-ready t n d e) .1
+
+  shuffled-agree : (t : ℕ) (list : List ℕ) → referenceNumber b (shuffle t list) ≡ 0
+      → (shuffled (tryAt t) list (concrete b) ≡ concreteDrawn (shuffled (referenceTry t) list b)) × Sound (shuffled (referenceTry t) list b .effect .next)
+  shuffled-agree t list e =
+      by-test (ltb 1 (length list)) _
+      (λ h. shuffle-agrees t list b (shuffle-ready t list e (ltb-true 1 (length list) h)))
+      (λ h.
+      let few = ltb-false 1 (length list) h in
+      rw (idle-shuffle (tryAt t) list (concrete b) few, idle-shuffle (referenceTry t) list b few) (unfold carried concreteEffect unchanged in (refl, s)))
+
+  pub found-agrees : (c : Call) → referenceNumber b c ≡ 0 → callFound (concrete b) c ≡ referenceFound b c
+  unfolding callFound referenceFound carried
+  found-agrees (event source pool content) e = refl
+  found-agrees (request t buffer) e = refl
+  found-agrees (update t seed) e = refl
+  found-agrees (write t seed) e = refl
+  found-agrees (draw t n d) e = ap (λ (o : Drawn Fortuna). o .found) (drawn-agree t n d e)
+  found-agrees (shuffle t list) e = ap (λ (o : Drawn Fortuna). o .found) (shuffled-agree t list e .0)
+
+  pub value-agrees : (c : Call) → referenceNumber b c ≡ 0 → callValue (concrete b) c ≡ referenceValue b c
+  unfolding callValue referenceValue carried
+  value-agrees (event source pool content) e = refl
+  value-agrees (request t buffer) e = refl
+  value-agrees (update t seed) e = refl
+  value-agrees (write t seed) e = refl
+  value-agrees (draw t n d) e = ap (λ (o : Drawn Fortuna). o .value) (drawn-agree t n d e)
+  value-agrees (shuffle t list) e = refl
 
   pub effect-agrees : (place : ℕ) (c : Call) → referenceNumber b c ≡ 0 → callEffect (concrete b) c ≡ concreteEffect (referenceEffect place b c)
   unfolding referenceNumber callEffect referenceEffect
@@ -60,6 +112,8 @@ module _ (b : Reference) (s : Sound b) where
   effect-agrees place (request t buffer) e = request-agrees b t (length buffer) s (request-room false (b .generator .count) (dueAt b t) (length buffer) e)
   effect-agrees place (update t seed) e = update-agrees b seed t s (update-room false (b .generator .count) (dueAt b t) seed e)
   effect-agrees place (write t seed) e = unfold writeSeed in request-agrees b t seedSize s (write-room false (b .generator .count) (dueAt b t) seed e)
+  effect-agrees place (draw t n d) e = unfold carried in ap (λ (o : Drawn Fortuna). o .effect) (drawn-agree t n d e)
+  effect-agrees place (shuffle t list) e = unfold carried in ap (λ (o : Drawn Fortuna). o .effect) (shuffled-agree t list e .0)
 
   pub effect-sound : (place : ℕ) (c : Call) → referenceNumber b c ≡ 0 → Sound (referenceEffect place b c .next)
   unfolding referenceNumber referenceEffect
@@ -68,27 +122,41 @@ module _ (b : Reference) (s : Sound b) where
   effect-sound place (request t buffer) e = request-sound b t (length buffer) s (request-room false (b .generator .count) (dueAt b t) (length buffer) e)
   effect-sound place (update t seed) e = update-sound b seed t s (update-room false (b .generator .count) (dueAt b t) seed e)
   effect-sound place (write t seed) e = request-sound b t seedSize s (write-room false (b .generator .count) (dueAt b t) seed e)
+  effect-sound place (draw t n d) e = drawn-sound t n d e
+  effect-sound place (shuffle t list) e = shuffled-agree t list e .1
 
 -- ---- refused or not
 
-outcome-concrete : (b : Reference) (buffer : List ℕ) (n m : ℕ) (x : Effect Fortuna) (y : Effect Reference) → n ≡ m → (m ≡ 0 → x ≡ concreteEffect y)
-    → outcome n buffer (concrete b) x ≡ concreteOutcome (outcome m buffer b y)
-unfolding outcome concreteOutcome concreteEffect
-outcome-concrete b buffer n m x y e h = λ i. record { number = e i; effect = same i }
-  where
-    go : (t : Bool) → (t ≡ true → x ≡ concreteEffect y) → cond t x (unchanged buffer (concrete b)) ≡ concreteEffect (cond t y (unchanged buffer b))
-    go true f = f refl
-    go false f = unfold unchanged concreteEffect in refl
+module _ (b : Reference) (buffer : List ℕ) (n m : ℕ) (e : n ≡ m) where
+  effect-concrete : (x : Effect Fortuna) (y : Effect Reference) → (m ≡ 0 → x ≡ concreteEffect y)
+      → effectOf n buffer (concrete b) x ≡ concreteEffect (effectOf m buffer b y)
+  unfolding effectOf
+  effect-concrete x y h = ap (λ (k : ℕ). guarded k x (unchanged buffer (concrete b))) e ∙ go (eqb m 0) (λ t. h (eqb-true m 0 t))
+    where
+      go : (t : Bool) → (t ≡ true → x ≡ concreteEffect y) → cond t x (unchanged buffer (concrete b)) ≡ concreteEffect (cond t y (unchanged buffer b))
+      go true f = f refl
+      go false f = unfold unchanged concreteEffect in refl
 
-    same : guarded n x (unchanged buffer (concrete b)) ≡ concreteEffect (guarded m y (unchanged buffer b))
-    same = ap (λ (k : ℕ). guarded k x (unchanged buffer (concrete b))) e ∙ go (eqb m 0) (λ t. h (eqb-true m 0 t))
+  -- what counts only where the call is not refused
+  guarded-same : (v w : ℕ) → (m ≡ 0 → v ≡ w) → guarded n v 0 ≡ guarded m w 0
+  guarded-same v w h = ap (λ (k : ℕ). guarded k v 0) e ∙ cond-cong (eqb m 0) (λ t. h (eqb-true m 0 t)) (λ t. refl)
+
+  outcome-concrete : (f g : Bool) (v w : ℕ) (x : Effect Fortuna) (y : Effect Reference) → (m ≡ 0 → f ≡ g) → (m ≡ 0 → v ≡ w) → (m ≡ 0 → x ≡ concreteEffect y)
+      → outcome n f v buffer (concrete b) x ≡ concreteOutcome (outcome m g w buffer b y)
+  unfolding outcome concreteOutcome concreteEffect
+  outcome-concrete f g v w x y p q h = λ i. record {
+    number = (ap (λ (k : ℕ). andThen k (cond f 0 33)) e ∙ then-cong m (cond f 0 33) (cond g 0 33) (λ z. ap (λ (t : Bool). cond t 0 33) (p z))) i;
+    value = guarded-same v w q i;
+    effect = effect-concrete x y h i;
+  }
 
 pub step-agrees : (place : ℕ) (b : Reference) → Sound b → (c : Call) → step (concrete b) c ≡ concreteOutcome (referenceStep place b c)
 unfolding step referenceStep
-step-agrees place b s c = outcome-concrete b (inputBuffer c) _ _ _ _ (number-agrees b s c) (effect-agrees b s place c)
+step-agrees place b s c =
+    outcome-concrete b (inputBuffer c) _ _ (number-agrees b s c) _ _ _ _ _ _ (found-agrees b s c) (value-agrees b s c) (effect-agrees b s place c)
 
 pub step-sound : (place : ℕ) (b : Reference) → Sound b → (c : Call) → Sound (referenceStep place b c .effect .next)
-unfolding referenceStep
+unfolding referenceStep outcome
 step-sound place b s c = outcome-keeps Sound _ (inputBuffer c) b _ s (effect-sound b s place c)
 
 pub next-agrees : (place : ℕ) (b : Reference) → Sound b → (c : Call) → step (concrete b) c .effect .next ≡ concrete (referenceStep place b c .effect .next)

@@ -10,49 +10,59 @@ use Rattle.generator.specs.Counter.{value, littleEndian, maxCounter}
 use Rattle.generator.specs.Steps.{decode, encode, initial, reseed, blockCount}
 use Rattle.generator.specs.Refusals as Generator
 use Rattle.generator.specs.Operations as Operations
+use Rattle.slots.specs.Shuffle.{isIn, hasRepeat}
 use Rattle.pools.specs.Events.{maxSource, poolCount, maxData, eventBytes, headerLength, gain}
 use Rattle.pools.specs.Schedule.{used, usedBelow, usedPools, elapsed, isDue}
 use Rattle.pools.specs.Pool.{tooLong, dirtyTail, strayChain, malformedPool, full}
 use Rattle.pools.specs.State.{fresh, poolAt, counterOf, anyPool, unseededReseeded, strayTimer, malformedFields, malformed, due}
-use Rattle.pools.specs.Refusals.{andThen, seedSize, unseeded, spent, eventInput, eventState, eventNumber, requestInput, outputState, requestNumber, seedInput, updateState, updateNumber, writeNumber}
-use Rattle.pools.specs.Calls.{inputBuffer, callNumber, callEffect, unchanged, outcome, step}
+use Rattle.pools.specs.Refusals.{andThen, seedSize, unseeded, spent, eventInput, eventState, eventNumber, requestInput, outputState, requestNumber, seedInput, updateState, updateNumber, writeNumber, maxBelow, maxTries, maxList, drawInput, drawNumber, listInput, shuffleState, shuffleNumber}
+use Rattle.pools.specs.Effects.{unchanged}
+use Rattle.pools.specs.Calls.{inputBuffer, callNumber, callEffect, callFound, callValue, effectOf, outcome, step}
 use Rattle.reference.specs.Readings.{wholeBlocks, reseededState, seededState}
-use Rattle.reference.specs.Boundaries.{answers, withPools, withFirstPool, withTimer, keyedUnseeded, EventRow, EventOrderRow, RoomRow, RequestRow, SeedRow, SeedRoomRow, RefusedRow, PoolClausesRow, LastPoolRow, TimerClausesRow, UsedRow, ReseedRow, Boundaries}
+use Rattle.reference.specs.Boundaries.{answers, withPools, withFirstPool, withTimer, keyedUnseeded, refusals, EventRow, EventOrderRow, RoomRow, RequestRow, SeedRow, SeedRoomRow, DrawRow, ShuffleRow, RefusedRow, PoolClausesRow, LastPoolRow, TimerClausesRow, UsedRow, ReseedRow, Boundaries}
 
 events-row : EventRow
-unfolding tabulate allZero sameList H⁰ zeroFilled emptyHasher absorbFrom absorb blocks maxMessage maxDMessage maxPoolLength emptyPool value littleEndian maxCounter decode encode initial Generator.malformed Operations.fresh poolCount tooLong dirtyTail strayChain malformedPool fresh poolAt counterOf anyPool unseededReseeded strayTimer malformedFields malformed andThen inputBuffer callNumber callEffect unchanged outcome step maxSource maxData eventBytes headerLength gain full eventInput eventState eventNumber wholeBlocks reseededState seededState answers withPools withFirstPool withTimer keyedUnseeded
+unfolding tabulate allZero sameList H⁰ zeroFilled emptyHasher absorbFrom absorb blocks maxMessage maxDMessage maxPoolLength emptyPool value littleEndian maxCounter decode encode initial Generator.malformed Operations.fresh poolCount tooLong dirtyTail strayChain malformedPool fresh poolAt counterOf anyPool unseededReseeded strayTimer malformedFields malformed andThen inputBuffer callNumber callEffect unchanged effectOf outcome callFound callValue step maxSource maxData eventBytes headerLength gain full eventInput eventState eventNumber wholeBlocks reseededState seededState answers withPools withFirstPool withTimer keyedUnseeded
 events-row = refl
 
 event-order-row : EventOrderRow
-unfolding tabulate allZero sameList H⁰ zeroFilled emptyHasher absorbFrom absorb blocks maxMessage maxDMessage maxPoolLength emptyPool value littleEndian maxCounter decode encode initial Generator.malformed Operations.fresh poolCount tooLong dirtyTail strayChain malformedPool fresh poolAt counterOf anyPool unseededReseeded strayTimer malformedFields malformed andThen inputBuffer callNumber callEffect unchanged outcome step maxSource maxData eventBytes headerLength gain full eventInput eventState eventNumber wholeBlocks reseededState seededState answers withPools withFirstPool withTimer keyedUnseeded
+unfolding tabulate allZero sameList H⁰ zeroFilled emptyHasher absorbFrom absorb blocks maxMessage maxDMessage maxPoolLength emptyPool value littleEndian maxCounter decode encode initial Generator.malformed Operations.fresh poolCount tooLong dirtyTail strayChain malformedPool fresh poolAt counterOf anyPool unseededReseeded strayTimer malformedFields malformed andThen inputBuffer callNumber callEffect unchanged effectOf outcome callFound callValue step maxSource maxData eventBytes headerLength gain full eventInput eventState eventNumber wholeBlocks reseededState seededState answers withPools withFirstPool withTimer keyedUnseeded
 event-order-row = refl
 
 room-row : RoomRow
-unfolding tabulate allZero sameList H⁰ zeroFilled emptyHasher absorbFrom absorb blocks maxMessage maxDMessage maxPoolLength emptyPool value littleEndian maxCounter decode encode initial Generator.malformed Operations.fresh poolCount tooLong dirtyTail strayChain malformedPool fresh poolAt counterOf anyPool unseededReseeded strayTimer malformedFields malformed andThen inputBuffer callNumber callEffect unchanged outcome step maxSource maxData eventBytes headerLength gain full eventInput eventState eventNumber wholeBlocks reseededState seededState answers withPools withFirstPool withTimer keyedUnseeded
+unfolding tabulate allZero sameList H⁰ zeroFilled emptyHasher absorbFrom absorb blocks maxMessage maxDMessage maxPoolLength emptyPool value littleEndian maxCounter decode encode initial Generator.malformed Operations.fresh poolCount tooLong dirtyTail strayChain malformedPool fresh poolAt counterOf anyPool unseededReseeded strayTimer malformedFields malformed andThen inputBuffer callNumber callEffect unchanged effectOf outcome callFound callValue step maxSource maxData eventBytes headerLength gain full eventInput eventState eventNumber wholeBlocks reseededState seededState answers withPools withFirstPool withTimer keyedUnseeded
 room-row = refl
 
 requests-row : RequestRow
-unfolding tabulate allZero sameList H⁰ zeroFilled emptyHasher absorbFrom absorb blocks maxMessage maxDMessage maxPoolLength emptyPool value littleEndian maxCounter decode encode initial Generator.malformed Operations.fresh poolCount tooLong dirtyTail strayChain malformedPool fresh poolAt counterOf anyPool unseededReseeded strayTimer malformedFields malformed andThen inputBuffer callNumber callEffect unchanged outcome step blockCount Generator.maxRequest elapsed isDue due unseeded spent requestInput outputState requestNumber wholeBlocks reseededState seededState answers withPools withFirstPool withTimer keyedUnseeded
+unfolding tabulate allZero sameList H⁰ zeroFilled emptyHasher absorbFrom absorb blocks maxMessage maxDMessage maxPoolLength emptyPool value littleEndian maxCounter decode encode initial Generator.malformed Operations.fresh poolCount tooLong dirtyTail strayChain malformedPool fresh poolAt counterOf anyPool unseededReseeded strayTimer malformedFields malformed andThen inputBuffer callNumber callEffect unchanged effectOf outcome callFound callValue step blockCount Generator.maxRequest elapsed isDue due unseeded spent requestInput outputState requestNumber wholeBlocks reseededState seededState answers withPools withFirstPool withTimer keyedUnseeded
 requests-row = refl
 
 seeds-row : SeedRow
-unfolding tabulate allZero sameList H⁰ zeroFilled emptyHasher absorbFrom absorb blocks maxMessage maxDMessage maxPoolLength emptyPool value littleEndian maxCounter decode encode initial Generator.malformed Operations.fresh poolCount tooLong dirtyTail strayChain malformedPool fresh poolAt counterOf anyPool unseededReseeded strayTimer malformedFields malformed andThen inputBuffer callNumber callEffect unchanged outcome step blockCount Generator.maxRequest elapsed isDue due unseeded spent requestInput outputState requestNumber seedSize seedInput updateState updateNumber writeNumber wholeBlocks reseededState seededState answers withPools withFirstPool withTimer keyedUnseeded
+unfolding tabulate allZero sameList H⁰ zeroFilled emptyHasher absorbFrom absorb blocks maxMessage maxDMessage maxPoolLength emptyPool value littleEndian maxCounter decode encode initial Generator.malformed Operations.fresh poolCount tooLong dirtyTail strayChain malformedPool fresh poolAt counterOf anyPool unseededReseeded strayTimer malformedFields malformed andThen inputBuffer callNumber callEffect unchanged effectOf outcome callFound callValue step blockCount Generator.maxRequest elapsed isDue due unseeded spent requestInput outputState requestNumber seedSize seedInput updateState updateNumber writeNumber wholeBlocks reseededState seededState answers withPools withFirstPool withTimer keyedUnseeded
 seeds-row = refl
 
 seed-room-row : SeedRoomRow
-unfolding tabulate allZero sameList H⁰ zeroFilled emptyHasher absorbFrom absorb blocks maxMessage maxDMessage maxPoolLength emptyPool value littleEndian maxCounter decode encode initial Generator.malformed Operations.fresh poolCount tooLong dirtyTail strayChain malformedPool fresh poolAt counterOf anyPool unseededReseeded strayTimer malformedFields malformed andThen inputBuffer callNumber callEffect unchanged outcome step blockCount Generator.maxRequest elapsed isDue due unseeded spent requestInput outputState requestNumber seedSize seedInput updateState updateNumber writeNumber wholeBlocks reseededState seededState answers withPools withFirstPool withTimer keyedUnseeded
+unfolding tabulate allZero sameList H⁰ zeroFilled emptyHasher absorbFrom absorb blocks maxMessage maxDMessage maxPoolLength emptyPool value littleEndian maxCounter decode encode initial Generator.malformed Operations.fresh poolCount tooLong dirtyTail strayChain malformedPool fresh poolAt counterOf anyPool unseededReseeded strayTimer malformedFields malformed andThen inputBuffer callNumber callEffect unchanged effectOf outcome callFound callValue step blockCount Generator.maxRequest elapsed isDue due unseeded spent requestInput outputState requestNumber seedSize seedInput updateState updateNumber writeNumber wholeBlocks reseededState seededState answers withPools withFirstPool withTimer keyedUnseeded
 seed-room-row = refl
 
+draws-row : DrawRow
+unfolding tabulate allZero sameList H⁰ zeroFilled emptyHasher absorbFrom absorb blocks maxMessage maxDMessage maxPoolLength emptyPool value littleEndian maxCounter decode encode initial Generator.malformed Operations.fresh poolCount tooLong dirtyTail strayChain malformedPool fresh poolAt counterOf anyPool unseededReseeded strayTimer malformedFields malformed andThen inputBuffer callNumber callEffect unchanged effectOf outcome callFound callValue step blockCount Generator.maxRequest elapsed isDue due unseeded spent requestInput outputState requestNumber wholeBlocks reseededState seededState answers withPools withFirstPool withTimer keyedUnseeded refusals drawInput drawNumber listInput shuffleState shuffleNumber maxBelow maxTries maxList isIn hasRepeat
+draws-row = refl
+
+shuffles-row : ShuffleRow
+unfolding tabulate allZero sameList H⁰ zeroFilled emptyHasher absorbFrom absorb blocks maxMessage maxDMessage maxPoolLength emptyPool value littleEndian maxCounter decode encode initial Generator.malformed Operations.fresh poolCount tooLong dirtyTail strayChain malformedPool fresh poolAt counterOf anyPool unseededReseeded strayTimer malformedFields malformed andThen inputBuffer callNumber callEffect unchanged effectOf outcome callFound callValue step blockCount Generator.maxRequest elapsed isDue due unseeded spent requestInput outputState requestNumber wholeBlocks reseededState seededState answers withPools withFirstPool withTimer keyedUnseeded refusals drawInput drawNumber listInput shuffleState shuffleNumber maxBelow maxTries maxList isIn hasRepeat
+shuffles-row = refl
+
 pool-clauses-row : PoolClausesRow
-unfolding tabulate allZero sameList H⁰ zeroFilled emptyHasher absorbFrom absorb blocks maxMessage maxDMessage maxPoolLength emptyPool value littleEndian maxCounter decode encode initial Generator.malformed Operations.fresh poolCount tooLong dirtyTail strayChain malformedPool fresh poolAt counterOf anyPool unseededReseeded strayTimer malformedFields malformed andThen inputBuffer callNumber callEffect unchanged outcome step wholeBlocks reseededState seededState answers withPools withFirstPool withTimer keyedUnseeded
+unfolding tabulate allZero sameList H⁰ zeroFilled emptyHasher absorbFrom absorb blocks maxMessage maxDMessage maxPoolLength emptyPool value littleEndian maxCounter decode encode initial Generator.malformed Operations.fresh poolCount tooLong dirtyTail strayChain malformedPool fresh poolAt counterOf anyPool unseededReseeded strayTimer malformedFields malformed andThen inputBuffer callNumber callEffect unchanged effectOf outcome callFound callValue step wholeBlocks reseededState seededState answers withPools withFirstPool withTimer keyedUnseeded
 pool-clauses-row = refl
 
 last-pool-row : LastPoolRow
-unfolding tabulate allZero sameList H⁰ zeroFilled emptyHasher absorbFrom absorb blocks maxMessage maxDMessage maxPoolLength emptyPool value littleEndian maxCounter decode encode initial Generator.malformed Operations.fresh poolCount tooLong dirtyTail strayChain malformedPool fresh poolAt counterOf anyPool unseededReseeded strayTimer malformedFields malformed andThen inputBuffer callNumber callEffect unchanged outcome step wholeBlocks reseededState seededState answers withPools withFirstPool withTimer keyedUnseeded
+unfolding tabulate allZero sameList H⁰ zeroFilled emptyHasher absorbFrom absorb blocks maxMessage maxDMessage maxPoolLength emptyPool value littleEndian maxCounter decode encode initial Generator.malformed Operations.fresh poolCount tooLong dirtyTail strayChain malformedPool fresh poolAt counterOf anyPool unseededReseeded strayTimer malformedFields malformed andThen inputBuffer callNumber callEffect unchanged effectOf outcome callFound callValue step wholeBlocks reseededState seededState answers withPools withFirstPool withTimer keyedUnseeded
 last-pool-row = refl
 
 timer-clauses-row : TimerClausesRow
-unfolding tabulate allZero sameList H⁰ zeroFilled emptyHasher absorbFrom absorb blocks maxMessage maxDMessage maxPoolLength emptyPool value littleEndian maxCounter decode encode initial Generator.malformed Operations.fresh poolCount tooLong dirtyTail strayChain malformedPool fresh poolAt counterOf anyPool unseededReseeded strayTimer malformedFields malformed andThen inputBuffer callNumber callEffect unchanged outcome step wholeBlocks reseededState seededState answers withPools withFirstPool withTimer keyedUnseeded
+unfolding tabulate allZero sameList H⁰ zeroFilled emptyHasher absorbFrom absorb blocks maxMessage maxDMessage maxPoolLength emptyPool value littleEndian maxCounter decode encode initial Generator.malformed Operations.fresh poolCount tooLong dirtyTail strayChain malformedPool fresh poolAt counterOf anyPool unseededReseeded strayTimer malformedFields malformed andThen inputBuffer callNumber callEffect unchanged effectOf outcome callFound callValue step wholeBlocks reseededState seededState answers withPools withFirstPool withTimer keyedUnseeded
 timer-clauses-row = refl
 
 used-by-six-row : UsedRow
@@ -60,7 +70,7 @@ unfolding poolCount used usedBelow usedPools
 used-by-six-row = refl
 
 refused-row : RefusedRow
-unfolding tabulate allZero sameList H⁰ zeroFilled emptyHasher absorbFrom absorb blocks maxMessage maxDMessage maxPoolLength emptyPool value littleEndian maxCounter decode encode initial Generator.malformed Operations.fresh poolCount tooLong dirtyTail strayChain malformedPool fresh poolAt counterOf anyPool unseededReseeded strayTimer malformedFields malformed andThen inputBuffer callNumber callEffect unchanged outcome step blockCount Generator.maxRequest elapsed isDue due unseeded spent requestInput outputState requestNumber seedSize seedInput updateState updateNumber writeNumber wholeBlocks reseededState seededState answers withPools withFirstPool withTimer keyedUnseeded
+unfolding tabulate allZero sameList H⁰ zeroFilled emptyHasher absorbFrom absorb blocks maxMessage maxDMessage maxPoolLength emptyPool value littleEndian maxCounter decode encode initial Generator.malformed Operations.fresh poolCount tooLong dirtyTail strayChain malformedPool fresh poolAt counterOf anyPool unseededReseeded strayTimer malformedFields malformed andThen inputBuffer callNumber callEffect unchanged effectOf outcome callFound callValue step blockCount Generator.maxRequest elapsed isDue due unseeded spent requestInput outputState requestNumber seedSize seedInput updateState updateNumber writeNumber wholeBlocks reseededState seededState answers withPools withFirstPool withTimer keyedUnseeded
 refused-row = (refl, refl, refl, refl, refl, refl)
 
 reseed-row : ReseedRow
@@ -76,6 +86,8 @@ boundaries =
       requests = requests-row;
       seeds = seeds-row;
       seedRoom = seed-room-row;
+      draws = draws-row;
+      shuffles = shuffles-row;
       refused = refused-row;
       poolClauses = pool-clauses-row;
       lastPool = last-pool-row;

@@ -1,19 +1,18 @@
 -- Of the state that the model says, the station reads what the model reads.
 -- Assumes nothing.
 use mathlib.Core.Path.{_≡_, refl, ap}
-use mathlib.Core.Bool.{Bool, true, false, not, _&&_, _||_}
-use mathlib.Core.List.{List, [], _∷_, _++_}
+use mathlib.Core.Bool.{Bool, false, not, _&&_}
+use mathlib.Core.List.{List}
 use Prim.Native.Nat.{ℕ, zero, suc, _+_, _-_, _%_, _^_, _≤_, _<_}
 use native.Mathlib.Omega.{arith}
 use lib.Dec.{eqb, ltb, lit<}
 use lib.ListN.{length}
 use borrow.Author.Tests.{eqb-true, ltb-true, ltb-false, lt-ltb, le-ltb, ne-eqb}
-use Rattle.laws.specs.Lists.{tabulate, allZero, sameList}
+use Rattle.laws.specs.Lists.{allZero, sameList}
 use Rattle.laws.proofs.Cases.{by-test}
 use Rattle.laws.proofs.Tabulate.{getD-tabulate}
 use Rattle.laws.proofs.Lists.{allZero-replicate, sameList-refl}
 use Rattle.hash.specs.Double.{emptyPool, poolOf, maxPoolLength}
-use Rattle.hash.specs.declared.hasher.Hasher.{Hasher}
 use Rattle.hash.proofs.Laws.{pool-length, pool-zeros, pool-short}
 use Rattle.generator.specs.Steps.{GeneratorState, decode, encode}
 use Rattle.generator.specs.Refusals as Generator
@@ -23,6 +22,7 @@ use Rattle.pools.specs.Events.{poolCount}
 use Rattle.pools.specs.Pool.{tooLong, dirtyTail, strayChain, malformedPool}
 use Rattle.pools.specs.Schedule.{elapsed, isDue}
 use Rattle.pools.specs.State.{poolAt, counterOf, anyPool, unseededReseeded, strayTimer, malformedFields, malformed, due}
+use Rattle.pools.proofs.PoolTests.{any-tabulate}
 use Rattle.reference.specs.Reference.{Reference, poolContents, dueAt}
 use Rattle.reference.specs.Agreement.{concrete}
 use Rattle.reference.proofs.Invariant.{Sound}
@@ -100,24 +100,10 @@ module _ (m : List ℕ) where
   unfolding malformedPool
   well-formed h = rw (not-too-long h, clean-tail, chain-kept)
 
-any-append : (t : Hasher → Bool) (l : List Hasher) (x : Hasher) → anyPool t l ≡ false → t x ≡ false → anyPool t (l ++ (x ∷ [])) ≡ false
-unfolding anyPool
-any-append t [] x h k = rw k
-any-append t (y ∷ l) x h k = go (t y) h (λ q. any-append t l x q k)
-  where
-    go : (d : Bool) → (d || anyPool t l) ≡ false → (anyPool t l ≡ false → anyPool t (l ++ (x ∷ [])) ≡ false) → (d || anyPool t (l ++ (x ∷ []))) ≡ false
-    go true q r = q
-    go false q r = r q
-
-any-tabulate : (t : Hasher → Bool) (f : ℕ → Hasher) (n : ℕ) → ((i : ℕ) → t (f i) ≡ false) → anyPool t (tabulate f n) ≡ false
-unfolding tabulate
-any-tabulate t f zero h = unfold anyPool in refl
-any-tabulate t f (suc n) h = any-append t (tabulate f n) (f n) (any-tabulate t f n h) (h n)
-
 module _ (b : Reference) (s : Sound b) where
   pools-fine : anyPool malformedPool (concrete b .pools) ≡ false
   unfolding concrete
-  pools-fine = any-tabulate malformedPool (λ i. poolOf (poolContents b i)) poolCount (λ i. well-formed (poolContents b i) (s .fits i))
+  pools-fine = any-tabulate malformedPool (λ i. poolOf (poolContents b i)) poolCount (λ i h. well-formed (poolContents b i) (s .fits i))
 
   -- a clause that asks for C = 0
   zero-count : (t : Bool) → (b .generator .count ≡ 0 → t ≡ false) → (eqb (b .generator .count) 0 && t) ≡ false

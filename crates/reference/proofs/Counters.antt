@@ -15,9 +15,11 @@ use Rattle.generator.specs.Closed.{counters, rekeyed, closedRandomData}
 use Rattle.generator.proofs.Statements.{counter-encoding}
 use Rattle.pools.specs.declared.Fortuna.{Fortuna}
 use Rattle.pools.specs.Refusals.{seedSize}
-use Rattle.pools.specs.Effects.{Effect}
-use Rattle.pools.specs.Calls.{Call, event, request, update, write, inputBuffer, unchanged, Outcome, outcome, runFrom}
-use Rattle.reference.specs.Reference.{Reference, empty, appendEvent, withState, referenceReseedIfDue, referenceRequest, referenceEffect, referenceStep, referenceRun}
+use Rattle.pools.specs.Effects.{Effect, unchanged}
+use Rattle.pools.specs.Draws.{trySize, after, leaving}
+use Rattle.pools.specs.Calls.{Call, event, request, update, write, draw, shuffle, inputBuffer, Outcome, effectOf, outcome, runFrom}
+use Rattle.pools.proofs.EachTry.{Kept, kept-tries, kept-shuffled}
+use Rattle.reference.specs.Reference.{referenceTry, Reference, empty, appendEvent, withState, referenceReseedIfDue, referenceRequest, referenceEffect, referenceStep, referenceRun}
 use Rattle.reference.specs.Agreement.{concreteOutcome}
 use Rattle.reference.specs.Counters.{NoRepeat, counterBlocks}
 use Rattle.reference.proofs.Invariant.{Sound, sound-empty, count-reseed-if-due}
@@ -77,8 +79,8 @@ random-data-rises w n = counters-rise (blockCount n + 2) (w .count) (omega arith
 RisesTo : ℕ → Effect Reference → Type 0
 RisesTo lo x = Rising (x .next .generator .count) lo (x .trace)
 
-outcome-rises : (n : ℕ) (buffer : List ℕ) (b : Reference) (x : Effect Reference) → RisesTo (b .generator .count) x → RisesTo (b .generator .count) (outcome n buffer b x .effect)
-unfolding outcome
+outcome-rises : (n : ℕ) (buffer : List ℕ) (b : Reference) (x : Effect Reference) → RisesTo (b .generator .count) x → RisesTo (b .generator .count) (effectOf n buffer b x)
+unfolding effectOf
 outcome-rises n buffer b x r = go (eqb n 0)
   where
     go : (t : Bool) → RisesTo (b .generator .count) (cond t x (unchanged buffer b))
@@ -89,15 +91,26 @@ request-rises : (b : Reference) (t n lo : ℕ) → lo ≤ b .generator .count �
 unfolding referenceRequest withState RisesTo
 request-rises b t n lo h = rising-from (omega (arith, count-reseed-if-due b t)) (random-data-rises (referenceReseedIfDue b t .generator) n)
 
+tries-rise : (clock : ℕ) → Kept (referenceTry clock) (λ (b : Reference). RisesTo (b .generator .count))
+unfolding RisesTo
+tries-rise clock = record {
+  idle = λ b l. unfold unchanged in top (b .generator .count) (omega arith);
+  other = λ b e l r. unfold leaving in r;
+  served = λ b. unfold referenceTry in request-rises b clock trySize (b .generator .count) (omega arith);
+  next = λ b e f r q. unfold after in rising-append r q;
+}
+
 effect-rises : (place : ℕ) (b : Reference) (c : Call) → RisesTo (b .generator .count) (referenceEffect place b c)
 unfolding referenceEffect
 effect-rises place b (event source pool content) = unfold RisesTo appendEvent in top (b .generator .count) (omega arith)
 effect-rises place b (request t buffer) = request-rises b t (length buffer) (b .generator .count) (omega arith)
 effect-rises place b (update t seed) = request-rises (seeded b seed) t seedSize (b .generator .count) (unfold withState reseed in omega arith)
 effect-rises place b (write t seed) = request-rises b t seedSize (b .generator .count) (omega arith)
+effect-rises place b (draw t n d) = kept-tries (referenceTry t) _ (tries-rise t) n d b
+effect-rises place b (shuffle t list) = kept-shuffled (referenceTry t) _ (tries-rise t) list b
 
 step-rises : (place : ℕ) (b : Reference) (c : Call) → RisesTo (b .generator .count) (referenceStep place b c .effect)
-unfolding referenceStep
+unfolding referenceStep outcome
 step-rises place b c = outcome-rises _ (inputBuffer c) b _ (effect-rises place b c)
 
 run-rises : (calls : List Call) (place : ℕ) (b : Reference) → Sound b

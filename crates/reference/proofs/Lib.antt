@@ -3,7 +3,10 @@ pub mod Bookings
 pub mod Invariant
 pub mod Concrete
 pub mod Simulation
+pub mod Moves
 pub mod Requests
+pub mod Carried
+pub mod Draws
 pub mod Agreement
 pub mod Timer
 pub mod Counters
@@ -11,6 +14,8 @@ pub mod Advances
 pub mod Places
 pub mod Uses
 pub mod Tracing
+pub mod Taken
+pub mod Keys
 pub mod Provenance
 pub mod Correct
 pub mod Readings

@@ -9,10 +9,10 @@ use native.Mathlib.Omega.{arith}
 use lib.ListN.{length}
 use Rattle.pools.specs.Events.{eventBytes}
 use Rattle.pools.specs.Effects.{Effect}
-use Rattle.pools.specs.Calls.{Call, event, inputBuffer, stateFrom}
+use Rattle.pools.specs.Calls.{Call, event, inputBuffer, outcome, stateFrom}
 use Rattle.reference.specs.Reference.{Accepted, Reference, empty, appendEvent, referenceNumber, referenceEffect, referenceStep, referenceAfter}
 use Rattle.reference.specs.Provenance.{NoEvent}
-use Rattle.reference.proofs.Advances.{Shape, appended, advanced, effect-shape, outcome-done, outcome-keeps}
+use Rattle.reference.proofs.Advances.{Shape, appended, moved, effect-shape, outcome-done, outcome-keeps}
 
 -- ---- one event more, or none
 
@@ -29,10 +29,10 @@ module _ (P : List Accepted → Type 0) (place : ℕ) (b : Reference) (h : P (b 
 
   shape-keeps : (c : Call) (x : Reference) → Adding c → Shape place b c x → P (x .events)
   shape-keeps c x k (appended source pool content q e) = rw e (unfold appendEvent in k source pool content q)
-  shape-keeps c x k (advanced _ _ a) = rw (a .events) h
+  shape-keeps c x k (moved _ a) = rw (a .events) h
 
   step-keeps : (c : Call) → (referenceNumber b c ≡ 0 → Adding c) → P (referenceStep place b c .effect .next .events)
-  unfolding referenceStep
+  unfolding referenceStep outcome
   step-keeps c k =
       outcome-keeps (λ (x : Reference). P (x .events)) (referenceNumber b c) (inputBuffer c) b (referenceEffect place b c) h
       (λ e. shape-keeps c _ (k e) (effect-shape place b c))
@@ -127,7 +127,7 @@ module _ (before : List Call) (source pool : ℕ) (content : List ℕ) (later : 
   noted = newEvent (length before) (referenceAfter before) source pool content
 
   left-events : left before (event source pool content) later .events ≡ referenceAfter before .events ++ (noted ∷ [])
-  unfolding left referenceStep referenceEffect appendEvent
+  unfolding left referenceStep referenceEffect appendEvent outcome
   left-events = ap (λ (o : Effect Reference). o .next .events) (outcome-done _ _ _ _ accepted)
 
   -- it is listed

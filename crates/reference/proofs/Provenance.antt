@@ -2,26 +2,28 @@
 -- Assumes nothing.
 use mathlib.Core.Path.{_≡_, refl, sym, ap, subst, subst₂, _∙_}
 use mathlib.Core.Logic.{_↔_}
-use mathlib.Core.Bool.{false, true, true≢false}
+use mathlib.Core.Bool.{false, true}
 use mathlib.Core.List.{List, _∷_, _++_}
 use Prim.Native.Nat.{ℕ, _+_, _*_, _/_, _^_, _≤_, _<_}
 use lib.ListN.{length}
-use Rattle.generator.specs.Steps.{decode, encode, reseed, pseudoRandomData}
+use Rattle.generator.specs.Steps.{decode, encode, reseed}
 use Rattle.generator.specs.declared.Generator.{Generator}
 use Rattle.pools.specs.declared.Fortuna.{Fortuna}
 use Rattle.pools.specs.Events.{poolCount, eventBytes}
 use Rattle.pools.specs.State.{poolAt, due}
-use Rattle.pools.specs.Refusals.{seedSize}
-use Rattle.pools.specs.Effects.{Effect, nextReseed, digests, withGenerator, poolReseed, reseedIfDue, randomData, reseedWithSeed, updateSeed, writeSeed}
-use Rattle.pools.specs.Calls.{Call, event, request, update, write, callNumber, callEffect, step, stateAfter}
-use Rattle.reference.specs.Reference.{Accepted, scheduledReseed, scheduled, referenceNumber, referenceAfter}
+use Rattle.pools.specs.Effects.{nextReseed, digests, withGenerator, poolReseed, reseedWithSeed}
+use Rattle.pools.specs.Calls.{Call, event, request, update, write, draw, shuffle, callNumber, step, stateAfter}
+use Rattle.reference.specs.Reference.{Accepted, dueAt, scheduledReseed, scheduled, referenceNumber, referenceAfter}
 use Rattle.reference.specs.Timer.{readingOf, reseedsAfter}
-use Rattle.reference.specs.Provenance.{Piece, pieceOf, dueFor, traced, Faithful, atReseed, asked, reseededBy, EntersKey, EntersAt, EventEnters, NoEvent, OthersNever, Provenance}
+use Rattle.reference.specs.Provenance.{Piece, pieceOf, dueFor, traced, Faithful, atReseed, madeFrom, TakenFrom, reseededBy, EntersKey, EntersAt, EventEnters, NoEvent, OthersNever, Provenance}
 use Rattle.pools.proofs.Acceptance.{event-passed}
 use Rattle.reference.proofs.Agreement.{number-agrees, sound-after, agrees}
-use Rattle.reference.proofs.Advances.{outcome-done, reseeds-after}
+use Rattle.reference.proofs.Advances.{reseeds-after}
 use Rattle.reference.proofs.Places.{none-at, event-listed, event-alone}
 use Rattle.reference.proofs.Uses.{entering-booked, booked-enters}
+use Rattle.reference.proofs.Concrete.{due-concrete}
+use Rattle.reference.proofs.Timer.{due-parts}
+use Rattle.reference.proofs.Keys.{takes}
 use Rattle.reference.proofs.Tracing.{Tied, tied-string, tied-digests, run-tied, run-state}
 
 -- the pool reseeds of a run are the model's R
@@ -51,6 +53,8 @@ same-digests s (event source pool content) = refl
 same-digests s (request clock buffer) = refl
 same-digests s (update clock seed) = refl
 same-digests s (write clock seed) = refl
+same-digests s (draw clock n d) = refl
+same-digests s (shuffle clock list) = refl
 
 reseed-key : (calls : List Call) (c : Call) → poolReseed (atReseed (stateAfter calls) c) (readingOf c) .generator ≡ reseededBy calls c
 unfolding poolReseed reseededBy
@@ -59,42 +63,24 @@ reseed-key calls c =
     (λ (d : List ℕ). encode (reseed (decode (atReseed (stateAfter calls) c .generator)) d))
     (same-digests (stateAfter calls) c ∙ faithful calls .hashes)
 
--- a request of n bytes from a generator, as a call leaves it
-record TakenFrom (g : Generator) (n : ℕ) (o : Effect Fortuna) : Type 0 where
-  bytes : o .buffer ≡ pseudoRandomData (decode g) n .bytes
-  next : o .next .generator ≡ encode (pseudoRandomData (decode g) n .next)
-
-random-due : (s : Fortuna) (clock n : ℕ) → due s clock ≡ true → TakenFrom (poolReseed s clock .generator) n (randomData s clock n)
-unfolding randomData reseedIfDue withGenerator
-random-due s clock n d = record { bytes = rw d; next = rw d }
-
-effect-due : (s : Fortuna) (c : Call) → dueFor s c ≡ true → TakenFrom (poolReseed (atReseed s c) (readingOf c) .generator) (asked c) (callEffect s c)
-unfolding dueFor atReseed readingOf asked callEffect updateSeed writeSeed
-effect-due s (event source pool content) d = absurd (true≢false (sym d))
-effect-due s (request clock buffer) d = random-due s clock (length buffer) d
-effect-due s (update clock seed) d = random-due (reseedWithSeed s seed) clock seedSize (unfold reseedWithSeed withGenerator due poolAt in d)
-effect-due s (write clock seed) d = random-due s clock seedSize d
-
-step-due : (calls : List Call) (c : Call) → callNumber (stateAfter calls) c ≡ 0 → dueFor (stateAfter calls) c ≡ true →
-    TakenFrom (reseededBy calls c) (asked c) (step (stateAfter calls) c .effect)
-step-due calls c e d =
-    let done : step (stateAfter calls) c .effect ≡ callEffect (stateAfter calls) c = unfold step in outcome-done _ _ _ _ e in
-    subst₂ (λ (g : Generator) (o : Effect Fortuna). TakenFrom g (asked c) o) (reseed-key calls c) (sym done)
-    (effect-due (stateAfter calls) c d)
-
-pub enters-key : (calls : List Call) (c : Call) → EntersKey calls c
-enters-key calls c =
-    record {
-      key = reseed-key calls c;
-      bytes = λ e d. step-due calls c e d .bytes;
-      next = λ e d. step-due calls c e d .next;
-    }
-
--- ---- each call of a list
-
 same-number : (before : List Call) (c : Call) → callNumber (stateAfter before) c ≡ referenceNumber (referenceAfter before) c
 same-number before c =
     ap (λ (s : Fortuna). callNumber s c) (agrees before .state) ∙ number-agrees (referenceAfter before) (sound-after before) c
+
+-- the outcome of a call that is accepted and makes a pool reseed
+key-taken : (calls : List Call) (c : Call) → callNumber (stateAfter calls) c ≡ 0 → dueFor (stateAfter calls) c ≡ true → TakenFrom (madeFrom (decode (reseededBy calls c)) c) (step (stateAfter calls) c)
+key-taken calls c e d =
+    let b = referenceAfter calls in
+    let p = due-parts (stateAfter calls) c d in
+    let due-now : dueAt b (readingOf c) ≡ true = sym (due-concrete b (readingOf c)) ∙ ap (λ (s : Fortuna). due s (readingOf c)) (sym (agrees calls .state)) ∙ p .1 in
+    subst (λ (g : Generator). TakenFrom (madeFrom (decode g) c) (step (stateAfter calls) c)) (reseed-key calls c)
+    (subst (λ (s : Fortuna). TakenFrom (madeFrom (decode (poolReseed (atReseed s c) (readingOf c) .generator)) c) (step s c)) (sym (agrees calls .state))
+    (takes b (sound-after calls) c (sym (same-number calls c) ∙ e) (p .0) due-now))
+
+pub enters-key : (calls : List Call) (c : Call) → EntersKey calls c
+enters-key calls c = record { key = reseed-key calls c; taken = key-taken calls c }
+
+-- ---- each call of a list
 
 -- no bytes enter at the place of a call that is refused or is no event
 never-enters :

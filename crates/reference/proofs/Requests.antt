@@ -13,7 +13,7 @@ use Rattle.pools.specs.Effects.{randomData, updateSeed}
 use Rattle.reference.specs.Reference.{Reference, dueAt, withState, referenceReseedIfDue, referenceRequest}
 use Rattle.reference.specs.Agreement.{concrete}
 use Rattle.reference.proofs.Invariant.{Sound, sound-state, sound-reseed-if-due, count-reseed-if-due}
-use Rattle.reference.proofs.Advances.{state-due}
+use Rattle.reference.proofs.Moves.{state-due}
 use Rattle.reference.proofs.Simulation.{concreteEffect, random-data-concrete, reseed-with-seed-concrete}
 
 module _ (b : Reference) (t n : ℕ) (s : Sound b) (room : b .generator .count + cond (dueAt b t) 1 0 + (blockCount n + 2) ≤ maxCounter) where

@@ -4,18 +4,24 @@ use mathlib.Core.Path.{_≡_, refl, sym, ap, _∙_}
 use mathlib.Core.Bool.{Bool, true, false, cond, not, _&&_, _||_, true≢false}
 use mathlib.Core.Logic.{_⊎_, inl, inr}
 use mathlib.Core.List.{List}
-use Prim.Native.Nat.{ℕ, zero, suc, _-_, _≤_, _<_}
+use Prim.Native.Nat.{ℕ, zero, suc, _≤_, _<_}
 use native.Mathlib.Omega.{arith}
 use lib.Dec.{eqb, leb, ltb, eqb·suc-zero}
 use lib.ListN.{length}
-use borrow.Author.Tests.{ltb-true, lt-ltb, leb-true, le-leb, eqb-true}
+use borrow.Author.Tests.{ltb-true, ltb-false, lt-ltb, leb-true, le-leb, eqb-true}
+use Rattle.laws.proofs.Cases.{by-test}
 use Rattle.pools.specs.declared.Fortuna.{Fortuna}
 use Rattle.pools.specs.Schedule.{usedPools, elapsed, isDue}
 use Rattle.pools.specs.State.{poolAt, due}
-use Rattle.pools.specs.Effects.{Effect, withPool, withGenerator, addEvent, nextReseed, poolReseed, reseedIfDue, emptiedBy, randomData, reseedWithSeed, updateSeed, writeSeed}
-use Rattle.pools.specs.Calls.{Call, event, request, update, write, inputBuffer, callNumber, callEffect, unchanged, outcome, step, stateAfter}
+use Rattle.pools.specs.Refusals.{andThen}
+use Rattle.pools.specs.Effects.{Effect, unchanged, withPool, withGenerator, addEvent, nextReseed, poolReseed, reseedIfDue, emptiedBy, randomData, reseedWithSeed, updateSeed, writeSeed}
+use Rattle.pools.specs.Draws.{trySize, after, leaving, tries, shuffled, tryAt}
+use Rattle.pools.specs.Calls.{Call, event, request, update, write, draw, shuffle, inputBuffer, callNumber, callEffect, callFound, effectOf, outcome, step, stateAfter}
+use Rattle.pools.proofs.Bounds.{number-small}
+use Rattle.pools.proofs.EachTry.{Kept, Begun, begun-tries, begun-shuffled, idle-shuffle}
+use Rattle.pools.proofs.OneReseed.{quiet-after, first-try, first-shuffled}
 use Rattle.reference.specs.Agreement.{concrete}
-use Rattle.reference.specs.Timer.{reseedsAfter, Clocked, readingOf, Later, ElapsedLaw, TimerStep}
+use Rattle.reference.specs.Timer.{reseedsAfter, requests, readingOf, Later, ElapsedLaw, TimerStep}
 use Rattle.reference.specs.Provenance.{dueFor}
 use Rattle.reference.proofs.Schedule.{used-some}
 use Rattle.reference.proofs.Advances.{reseeds-after}
@@ -85,12 +91,25 @@ random-data-emptied : (s : Fortuna) (clock n : ℕ) → ltb 0 (randomData s cloc
 unfolding randomData
 random-data-emptied s clock n = emptied-due s clock
 
+-- a draw and a shuffle: those of their first try
+draw-emptied : (clock n d : ℕ) (s : Fortuna) → ltb 0 (tries (tryAt clock) n d s .effect .emptied) ≡ (ltb 0 d && due s clock)
+draw-emptied clock n zero s = unfold tries unchanged in refl
+draw-emptied clock n (suc d) s = rw (lt-ltb 0 (suc d) (omega arith), first-try clock n d s .0) (emptied-due s clock)
+
+shuffle-emptied : (clock : ℕ) (list : List ℕ) (s : Fortuna) → ltb 0 (shuffled (tryAt clock) list s .effect .emptied) ≡ (ltb 1 (length list) && due s clock)
+shuffle-emptied clock list s =
+    by-test (ltb 1 (length list)) _
+    (λ t. rw (t, first-shuffled clock list s (ltb-true 1 (length list) t) .0) (emptied-due s clock))
+    (λ t. rw (t, idle-shuffle (tryAt clock) list s (ltb-false 1 (length list) t)) (unfold unchanged in refl))
+
 effect-emptied : (s : Fortuna) (c : Call) → ltb 0 (callEffect s c .emptied) ≡ dueFor s c
-unfolding callEffect dueFor
+unfolding callEffect dueFor requests readingOf
 effect-emptied s (event source pool content) = refl
 effect-emptied s (request clock buffer) = random-data-emptied s clock (length buffer)
 effect-emptied s (update clock seed) = unfold updateSeed in random-data-emptied (reseedWithSeed s seed) clock _ ∙ seeded-due s seed clock
 effect-emptied s (write clock seed) = unfold writeSeed in random-data-emptied s clock _
+effect-emptied s (draw clock n d) = draw-emptied clock n d s
+effect-emptied s (shuffle clock list) = shuffle-emptied clock list s
 
 random-data-mark : (s : Fortuna) (clock n : ℕ) → randomData s clock n .next .«last_reseed» ≡ cond (due s clock) clock (s .«last_reseed»)
 unfolding randomData withGenerator reseedIfDue
@@ -100,8 +119,46 @@ random-data-mark s clock n = go (due s clock)
     go true = unfold poolReseed in refl
     go false = refl
 
+-- a draw and a shuffle: as their first try, and no try after it
+module _ (clock : ℕ) where
+  -- the mark where none is due, and where one is
+  Unmoved : Fortuna → Effect Fortuna → Type 0
+  Unmoved s e = due s clock ≡ false → (due (e .next) clock ≡ false) × (e .next .«last_reseed» ≡ s .«last_reseed»)
+
+  Marked : Fortuna → Effect Fortuna → Type 0
+  Marked s e = (due (e .next) clock ≡ false) × (e .next .«last_reseed» ≡ cond (due s clock) clock (s .«last_reseed»))
+
+  unmoved : Kept (tryAt clock) Unmoved
+  unfolding Unmoved tryAt
+  unmoved = record {
+    idle = λ s l h. unfold unchanged in (h, refl);
+    other = λ s e l q. unfold leaving in q;
+    served = λ s h. (quiet-after s clock trySize, random-data-mark s clock trySize ∙ rw h);
+    next = λ s e f q r h. unfold after in let x = q h in let y = r (x .0) in (y .0, y .1 ∙ x .1);
+  }
+
+  marked : Begun (tryAt clock) Marked Unmoved
+  unfolding Marked Unmoved tryAt
+  marked = record {
+    other = λ s e l q. unfold leaving in q;
+    served = λ s. (quiet-after s clock trySize, random-data-mark s clock trySize);
+    next = λ s e f q r. unfold after in let y = r (q .0) in (y .0, y .1 ∙ q .1);
+  }
+
+  draw-mark : (n d : ℕ) (s : Fortuna) → tries (tryAt clock) n d s .effect .next .«last_reseed» ≡ cond (ltb 0 d && due s clock) clock (s .«last_reseed»)
+  unfolding Marked
+  draw-mark n zero s = unfold tries unchanged in refl
+  draw-mark n (suc d) s = rw (lt-ltb 0 (suc d) (omega arith)) (begun-tries (tryAt clock) Unmoved unmoved Marked marked n d s .1)
+
+  shuffle-mark : (list : List ℕ) (s : Fortuna) → shuffled (tryAt clock) list s .effect .next .«last_reseed» ≡ cond (ltb 1 (length list) && due s clock) clock (s .«last_reseed»)
+  unfolding Marked
+  shuffle-mark list s =
+      by-test (ltb 1 (length list)) _
+      (λ t. rw t (begun-shuffled (tryAt clock) Unmoved unmoved Marked marked list s (ltb-true 1 (length list) t) .1))
+      (λ t. rw (t, idle-shuffle (tryAt clock) list s (ltb-false 1 (length list) t)) (unfold unchanged in refl))
+
 effect-mark : (s : Fortuna) (c : Call) → callEffect s c .next .«last_reseed» ≡ cond (dueFor s c) (readingOf c) (s .«last_reseed»)
-unfolding callEffect dueFor readingOf
+unfolding callEffect dueFor requests readingOf
 effect-mark s (event source pool content) = unfold addEvent withPool in refl
 effect-mark s (request clock buffer) = random-data-mark s clock (length buffer)
 effect-mark s (update clock seed) =
@@ -109,47 +166,59 @@ effect-mark s (update clock seed) =
     random-data-mark (reseedWithSeed s seed) clock _
     ∙ rw (seeded-due s seed clock) (unfold reseedWithSeed withGenerator in refl)
 effect-mark s (write clock seed) = unfold writeSeed in random-data-mark s clock _
+effect-mark s (draw clock n d) = draw-mark clock n d s
+effect-mark s (shuffle clock list) = shuffle-mark clock list s
 
 -- a refused call does nothing
 outcome-emptied : (n : ℕ) (buffer : List ℕ) (s : Fortuna) (x : Effect Fortuna) (d : Bool) → ltb 0 (x .emptied) ≡ d
-    → ltb 0 (outcome n buffer s x .effect .emptied) ≡ (eqb n 0 && d)
-unfolding outcome unchanged
+    → ltb 0 (effectOf n buffer s x .emptied) ≡ (eqb n 0 && d)
+unfolding effectOf unchanged
 outcome-emptied zero buffer s x d h = h
 outcome-emptied (suc n) buffer s x d h = rw (eqb·suc-zero n)
 
 outcome-mark : (n : ℕ) (buffer : List ℕ) (s : Fortuna) (x : Effect Fortuna) (d : Bool) (t : ℕ) → x .next .«last_reseed» ≡ cond d t (s .«last_reseed»)
-    → outcome n buffer s x .effect .next .«last_reseed» ≡ cond (eqb n 0 && d) t (s .«last_reseed»)
-unfolding outcome unchanged
+    → effectOf n buffer s x .next .«last_reseed» ≡ cond (eqb n 0 && d) t (s .«last_reseed»)
+unfolding effectOf unchanged
 outcome-mark zero buffer s x d t h = h
 outcome-mark (suc n) buffer s x d t h = rw (eqb·suc-zero n)
 
-step-number : (s : Fortuna) (c : Call) → step s c .number ≡ callNumber s c
+-- a call is not refused exactly if its number is 0 or 33
+taken : (n : ℕ) (f : Bool) → n ≡ 0 → (andThen n (cond f 0 33) ≡ 0) ⊎ (andThen n (cond f 0 33) ≡ 33)
+unfolding andThen
+taken n true e = inl (rw e)
+taken n false e = inr (rw e)
+
+not-refused : (n : ℕ) (f : Bool) → n ≤ 32 → (andThen n (cond f 0 33) ≡ 0) ⊎ (andThen n (cond f 0 33) ≡ 33) → n ≡ 0
+unfolding andThen
+not-refused zero f h e = refl
+not-refused (suc n) f h (inl e) = rw (eqb·suc-zero n) at e
+not-refused (suc n) f h (inr e) = let k : suc n ≡ 33 = rw (eqb·suc-zero n) at e in absurd (omega arith)
+
+step-taken : (s : Fortuna) (c : Call) → callNumber s c ≡ 0 → (step s c .number ≡ 0) ⊎ (step s c .number ≡ 33)
 unfolding step outcome
-step-number s c = refl
+step-taken s c e = taken (callNumber s c) (callFound s c) e
+
+step-not-refused : (s : Fortuna) (c : Call) → (step s c .number ≡ 0) ⊎ (step s c .number ≡ 33) → callNumber s c ≡ 0
+unfolding step outcome
+step-not-refused s c n = not-refused (callNumber s c) (callFound s c) (number-small s c) n
 
 step-emptied : (s : Fortuna) (c : Call) → ltb 0 (step s c .effect .emptied) ≡ (eqb (callNumber s c) 0 && dueFor s c)
-unfolding step
+unfolding step outcome
 step-emptied s c = outcome-emptied (callNumber s c) (inputBuffer c) s (callEffect s c) (dueFor s c) (effect-emptied s c)
 
 step-mark : (s : Fortuna) (c : Call) → step s c .effect .next .«last_reseed» ≡ cond (ltb 0 (step s c .effect .emptied)) (readingOf c) (s .«last_reseed»)
 step-mark s c =
     rw (step-emptied s c)
-    (unfold step in outcome-mark (callNumber s c) (inputBuffer c) s (callEffect s c) (dueFor s c) (readingOf c) (effect-mark s c))
+    (unfold step outcome in outcome-mark (callNumber s c) (inputBuffer c) s (callEffect s c) (dueFor s c) (readingOf c) (effect-mark s c))
 
--- a reseed is due only for a call with a reading
-due-clocked : (s : Fortuna) (c : Call) → dueFor s c ≡ true → Clocked c × (due s (readingOf c) ≡ true)
-unfolding dueFor readingOf
-due-clocked s (event source pool content) h = absurd (true≢false (sym h))
-due-clocked s (request clock buffer) h = (tt, h)
-due-clocked s (update clock seed) h = (tt, h)
-due-clocked s (write clock seed) h = (tt, h)
+-- a reseed is due only for a call that makes a request
+pub due-parts : (s : Fortuna) (c : Call) → dueFor s c ≡ true → (requests c ≡ true) × (due s (readingOf c) ≡ true)
+unfolding dueFor
+due-parts s c h = both (requests c) (due s (readingOf c)) h
 
-clocked-due : (s : Fortuna) (c : Call) → Clocked c → due s (readingOf c) ≡ true → dueFor s c ≡ true
-unfolding dueFor readingOf
-clocked-due s (event source pool content) k h = absurd k
-clocked-due s (request clock buffer) k h = h
-clocked-due s (update clock seed) k h = h
-clocked-due s (write clock seed) k h = h
+due-whole : (s : Fortuna) (c : Call) → requests c ≡ true → due s (readingOf c) ≡ true → dueFor s c ≡ true
+unfolding dueFor
+due-whole s c h k = rw (h, k)
 
 -- ---- after every list of calls
 
@@ -171,20 +240,20 @@ timer-step calls c = record { reseeds = (says, holds); mark = step-mark s c }
 
     Told : Type 0
     Told =
-        (step (stateAfter calls) c .number ≡ 0) × Clocked c × (64 ≤ poolAt (stateAfter calls) 0 .length)
+        ((step (stateAfter calls) c .number ≡ 0) ⊎ (step (stateAfter calls) c .number ≡ 33)) × (requests c ≡ true) × (64 ≤ poolAt (stateAfter calls) 0 .length)
         × ((reseedsAfter calls ≡ 0) ⊎ ((e : ℕ) × Later (stateAfter calls .«last_reseed») e (readingOf c) × (100 < e)))
 
     says : 0 < step (stateAfter calls) c .effect .emptied → Told
     says h =
         unfold Waited in
         let p = both (eqb (callNumber (stateAfter calls) c) 0) (dueFor (stateAfter calls) c) (sym (step-emptied (stateAfter calls) c) ∙ lt-ltb 0 _ h) in
-        let k = due-clocked (stateAfter calls) c (p .1) in
+        let k = due-parts (stateAfter calls) c (p .1) in
         let d = due-says (poolAt (stateAfter calls) 0 .length) (reseedsAfter calls) (stateAfter calls .«last_reseed») (readingOf c) (sym (due-after calls (readingOf c)) ∙ k .1) in
-        (step-number (stateAfter calls) c ∙ eqb-true _ 0 (p .0), k .0, d .0, d .1)
+        (step-taken (stateAfter calls) c (eqb-true _ 0 (p .0)), k .0, d .0, d .1)
 
     holds : Told → 0 < step (stateAfter calls) c .effect .emptied
     holds (n, k, size, w) =
         unfold Waited in
         let d : due (stateAfter calls) (readingOf c) ≡ true = due-after calls (readingOf c) ∙ due-holds (poolAt (stateAfter calls) 0 .length) (reseedsAfter calls) (stateAfter calls .«last_reseed») (readingOf c) size w in
-        let e : callNumber (stateAfter calls) c ≡ 0 = sym (step-number (stateAfter calls) c) ∙ n in
-        ltb-true 0 _ (step-emptied (stateAfter calls) c ∙ rw (e, clocked-due (stateAfter calls) c k d))
+        let e = step-not-refused (stateAfter calls) c n in
+        ltb-true 0 _ (step-emptied (stateAfter calls) c ∙ rw (e, due-whole (stateAfter calls) c k d))

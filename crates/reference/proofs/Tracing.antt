@@ -1,7 +1,7 @@
 -- The traced station beside the reference model: its pieces are the events pending in each pool, and its uses of pools are the schedule's.
 -- Assumes nothing.
 use mathlib.Core.Path.{_≡_, refl, sym, ap, ap₂, subst, fun-ext, _∙_}
-use mathlib.Core.Bool.{Bool, true, false, cond}
+use mathlib.Core.Bool.{Bool, true, false, cond, _&&_}
 use mathlib.Core.List.{List, [], _∷_, _++_, map, append-nil, map-append}
 use Prim.Native.Nat.{ℕ, zero, suc, _+_, _≤_, _<_}
 use native.Mathlib.Numerals.{add-one}
@@ -16,18 +16,19 @@ use Rattle.pools.specs.declared.Fortuna.{Fortuna}
 use Rattle.pools.specs.Events.{poolCount, eventBytes}
 use Rattle.pools.specs.Schedule.{used, usedPools}
 use Rattle.pools.specs.State.{poolAt, due}
-use Rattle.pools.specs.Effects.{Effect, nextReseed, digests}
-use Rattle.pools.specs.Calls.{Call, event, inputBuffer, unchanged, Outcome, outcome, callNumber, step, stateFrom, stateAfter}
-use Rattle.reference.specs.Reference.{Accepted, Reference, empty, select, pending, consumedAt, contents, poolContents, dueAt, appendEvent, referenceReseed, referenceReseedIfDue, referenceNumber, referenceEffect, referenceStep, referenceAfter}
+use Rattle.pools.specs.Effects.{Effect, unchanged, nextReseed, digests}
+use Rattle.pools.specs.Calls.{Call, event, inputBuffer, Outcome, effectOf, outcome, callNumber, step, stateFrom, stateAfter}
+use Rattle.reference.specs.Reference.{Accepted, Reference, empty, select, pending, consumedAt, contents, poolContents, appendEvent, referenceReseed, referenceNumber, referenceEffect, referenceStep, referenceAfter}
 use Rattle.reference.specs.Agreement.{concrete, concreteOutcome}
-use Rattle.reference.specs.Timer.{readingOf}
+use Rattle.reference.specs.Timer.{requests, readingOf}
 use Rattle.reference.specs.Provenance.{Piece, PoolUse, erased, Traced, tracedFresh, dueFor, putsInto, useOf, nextUses, tracedReseed, tracedAccepted, tracedStep, tracedFrom, traced, pieceOf, scheduledUse, scheduledUses}
 use Rattle.reference.proofs.Schedule.{joined-used}
 use Rattle.reference.proofs.Bookings.{select-append, new-pending, new-consumed-later, pending-consumed, pending-gone, pending-stays}
 use Rattle.reference.proofs.Invariant.{Sound, sound-empty}
 use Rattle.reference.proofs.Concrete.{pool-concrete, due-concrete}
 use Rattle.reference.proofs.Simulation.{used-concrete, used-pools-concrete}
-use Rattle.reference.proofs.Advances.{Advanced, reseed-advances, Shape, appended, advanced, effect-shape}
+use Rattle.reference.proofs.Moves.{Moved, reseed-moves}
+use Rattle.reference.proofs.Advances.{Shape, appended, moved, dueCall, effect-shape}
 use Rattle.reference.proofs.Agreement.{number-agrees, step-agrees, step-sound, fresh-concrete}
 
 -- ---- pieces
@@ -132,7 +133,7 @@ uses-event es e (suc n) h =
 event-tags :
     (place : ℕ) (t : Traced) (b : Reference) (source pool : ℕ) (content : List ℕ) → Tags t b →
     Tags (tracedAccepted place t (event source pool content)) (appendEvent place b pool (eventBytes source content))
-unfolding tracedAccepted dueFor putsInto appendEvent
+unfolding tracedAccepted dueFor requests putsInto appendEvent
 event-tags place t b source pool content g =
     record {
       reseeds = g .reseeds;
@@ -189,26 +190,29 @@ module _ (t : Traced) (b : Reference) (clock : ℕ) (s : Sound b) (tied : Tied t
   due-tags true = reseed-tags t b clock s tied
   due-tags false = tied .tags
 
-  advanced-tags : (x : Reference) → Advanced b clock x → Tags (quiet (cond (due (t .state) clock) (tracedReseed t) t)) x
-  advanced-tags x a =
-      let r = reseed-advances b clock in
-      rw (ap (λ (y : Fortuna). due y clock) (tied .state) ∙ due-concrete b clock)
-      (quiet-tags _ (referenceReseedIfDue b clock) x (r .reseeds ∙ sym (a .reseeds)) (r .events ∙ sym (a .events))
-      (unfold referenceReseedIfDue in due-tags (dueAt b clock)))
+  moved-tags : (d : Bool) (x : Reference) → Moved b d clock x → Tags (quiet (cond d (tracedReseed t) t)) x
+  moved-tags d x m =
+      let r = reseed-moves b clock d in
+      quiet-tags _ (cond d (referenceReseed b clock) b) x (r .reseeds ∙ sym (m .reseeds)) (r .events ∙ sym (m .events)) (due-tags d)
 
 -- ---- a call
+
+same-due : (t : Traced) (b : Reference) → Tied t b → (c : Call) → dueFor (t .state) c ≡ dueCall b c
+unfolding dueFor dueCall
+same-due t b tied c =
+    ap (λ (d : Bool). requests c && d) (ap (λ (y : Fortuna). due y (readingOf c)) (tied .state) ∙ due-concrete b (readingOf c))
 
 shape-tags :
     (place : ℕ) (t : Traced) (b : Reference) → Sound b → Tied t b → (c : Call) (x : Reference) → Shape place b c x →
     Tags (tracedAccepted place t c) x
 shape-tags place t b s tied c x (appended source pool content q e) = rw (q, e) (event-tags place t b source pool content (tied .tags))
-shape-tags place t b s tied c x (advanced q p a) =
-    subst (λ (m : Traced). Tags m x) (sym (accepted-quiet place t c _ (q (t .state)) p)) (advanced-tags t b (readingOf c) s tied x a)
+shape-tags place t b s tied c x (moved p m) =
+    subst (λ (r : Traced). Tags r x) (sym (accepted-quiet place t c (dueCall b c) (same-due t b tied c) p)) (moved-tags t b (readingOf c) s tied (dueCall b c) x m)
 
 outcome-tags :
     (b : Reference) (buffer : List ℕ) (n : ℕ) (done : Effect Reference) (t m : Traced) → Tags t b → (n ≡ 0 → Tags m (done .next)) →
-    Tags (cond (eqb n 0) m t) (outcome n buffer b done .effect .next)
-unfolding outcome unchanged
+    Tags (cond (eqb n 0) m t) (effectOf n buffer b done .next)
+unfolding effectOf unchanged
 outcome-tags b buffer zero done t m h k = k refl
 outcome-tags b buffer (suc n) done t m h k = rw (eqb·suc-zero n) h
 
@@ -231,7 +235,7 @@ step-tied place t b s tied c =
         subst
         (λ (n : ℕ). Tags (cond (eqb n 0) (tracedAccepted place t c) t) (referenceStep place b c .effect .next))
         (sym same-number)
-        (unfold referenceStep in
+        (unfold referenceStep outcome in
         outcome-tags b (inputBuffer c) (referenceNumber b c) (referenceEffect place b c) t _ (tied .tags)
         (λ e. shape-tags place t b s tied c _ (effect-shape place b c)))
 

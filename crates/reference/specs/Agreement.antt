@@ -30,6 +30,7 @@ unfoldable pub concreteOutcome : Outcome Reference → Outcome Fortuna
 concreteOutcome o =
     record {
       number = o .number;
+      value = o .value;
       effect = record {
         emptied = o .effect .emptied;
         buffer = o .effect .buffer;
@@ -45,7 +46,7 @@ pub record RunIsSteps : Type 0 where
   pub start : stateAfter [] ≡ fresh
   pub left : (calls : List Call) (c : Call) → stateAfter (calls ++ (c ∷ [])) ≡ step (stateAfter calls) c .effect .next
 
--- numbers, counts, buffers, states left and traces are the model's, and so are the fresh state and the state at the end
+-- numbers, values drawn, counts, buffers, states left and traces are the model's, and so are the fresh state and the state at the end
 pub record Agrees (calls : List Call) : Type 0 where
   pub fresh-state : fresh ≡ concrete empty
   pub outcomes : run calls ≡ map concreteOutcome (referenceRun calls)

@@ -12,7 +12,7 @@ use Rattle.generator.specs.Steps.{GeneratorState, encode, reseed}
 use Rattle.pools.specs.declared.Fortuna.{Fortuna}
 use Rattle.pools.specs.Schedule.{usedPools}
 use Rattle.pools.specs.State.{fresh, malformed}
-use Rattle.pools.specs.Calls.{Call, event, request, update, write, step}
+use Rattle.pools.specs.Calls.{Call, event, request, update, write, draw, shuffle, callNumber, step}
 use Rattle.reference.specs.Readings.{wholeBlocks, reseededState, seededState}
 
 -- the number that a state answers a call with
@@ -94,6 +94,33 @@ SeedRoomRow =
     ++ map (λ (c : ℕ). step (reseededState c 1 0) (update 200 (replicate 64 1)) .number) ((2 ^ 128 - 9) ∷ (2 ^ 128 - 8) ∷ [])
     ≡ 0 ∷ 24 ∷ 0 ∷ 24 ∷ 0 ∷ 24 ∷ 0 ∷ 24 ∷ []
 
+-- the numbers that refuse calls before they do anything
+unfoldable pub refusals : Fortuna → List Call → List ℕ
+refusals s calls = map (callNumber s) calls
+
+-- a draw: n from 1 to 2^32 (31), then 1 to 64 tries (32), both before 21; 23 as for a request; 3 blocks for each try, and one more with a
+-- due reseed
+abbrev pub DrawRow : Type 0
+DrawRow =
+    refusals keyedUnseeded
+    (draw 0 0 0 ∷ draw 0 (2 ^ 32 + 1) 65 ∷ draw 0 1 0 ∷ draw 0 (2 ^ 32) 65 ∷ draw 0 1 1 ∷ draw 0 (2 ^ 32) 64 ∷ [])
+    ++ refusals fresh (draw 0 1 1 ∷ []) ++ refusals (withFirstPool fresh (wholeBlocks 64)) (draw 0 1 1 ∷ [])
+    ++ map (λ (c : ℕ). callNumber (seededState c) (draw 0 6 2)) ((2 ^ 128 - 7) ∷ (2 ^ 128 - 6) ∷ [])
+    ++ map (λ (c : ℕ). callNumber (reseededState c 1 0) (draw 200 6 2)) ((2 ^ 128 - 8) ∷ (2 ^ 128 - 7) ∷ [])
+    ≡ 31 ∷ 31 ∷ 32 ∷ 32 ∷ 21 ∷ 21 ∷ 23 ∷ 0 ∷ 0 ∷ 24 ∷ 0 ∷ 24 ∷ []
+
+-- a shuffle: 31 for a repeat or more than 256 numbers, before 21; below 2 numbers neither 23 nor 24; 192 blocks for each number but one
+abbrev pub ShuffleRow : Type 0
+ShuffleRow =
+    refusals keyedUnseeded
+    (shuffle 0 (5 ∷ 6 ∷ 5 ∷ []) ∷ shuffle 0 (replicate 257 0) ∷ shuffle 0 [] ∷ shuffle 0 (5 ∷ []) ∷ shuffle 0 (5 ∷ 6 ∷ []) ∷ [])
+    ++ refusals fresh (shuffle 0 [] ∷ shuffle 0 (5 ∷ []) ∷ shuffle 0 (5 ∷ 6 ∷ []) ∷ [])
+    ++ refusals (withFirstPool fresh (wholeBlocks 64)) (shuffle 0 (5 ∷ 6 ∷ []) ∷ [])
+    ++ map (λ (c : ℕ). callNumber (seededState c) (shuffle 0 (5 ∷ 6 ∷ 7 ∷ []))) ((2 ^ 128 - 385) ∷ (2 ^ 128 - 384) ∷ [])
+    ++ map (λ (c : ℕ). callNumber (reseededState c 1 0) (shuffle 200 (5 ∷ 6 ∷ 7 ∷ []))) ((2 ^ 128 - 386) ∷ (2 ^ 128 - 385) ∷ [])
+    ++ refusals (seededState (2 ^ 128 - 1)) (shuffle 0 (5 ∷ []) ∷ [])
+    ≡ 31 ∷ 31 ∷ 21 ∷ 21 ∷ 21 ∷ 0 ∷ 0 ∷ 23 ∷ 0 ∷ 0 ∷ 24 ∷ 0 ∷ 24 ∷ 0 ∷ []
+
 -- a refused call: count 0, the buffer and the state as before
 abbrev pub RefusedRow : Type 0
 RefusedRow =
@@ -154,6 +181,8 @@ pub record Boundaries : Type 0 where
   pub requests : RequestRow
   pub seeds : SeedRow
   pub seedRoom : SeedRoomRow
+  pub draws : DrawRow
+  pub shuffles : ShuffleRow
   pub refused : RefusedRow
   pub poolClauses : PoolClausesRow
   pub lastPool : LastPoolRow

@@ -1,5 +1,5 @@
--- Demand 3, whole: one claim about a list of events, requests with a reading, seed updates and seed writes, in any order, with any
--- arguments, from a fresh start. It has no hypothesis.
+-- Demand 3, whole: one claim about a list of events, requests with a reading, seed updates, seed writes, draws and shuffles, in any
+-- order, with any arguments, from a fresh start. It has no hypothesis.
 -- Assumes nothing.
 use mathlib.Core.List.{List}
 use Rattle.pools.specs.Calls.{Call}

@@ -2,7 +2,7 @@
 -- The station runs beside its pools' strings, kept as pieces with the place of their call and emptied by the station's own rule.
 -- Assumes nothing.
 use mathlib.Core.Path.{_≡_}
-use mathlib.Core.Bool.{Bool, true, false, cond}
+use mathlib.Core.Bool.{Bool, true, cond, _&&_}
 use mathlib.Core.Logic.{_↔_}
 use mathlib.Core.List.{List, [], _∷_, _++_, map, List·Memᴰ}
 use Prim.Native.Nat.{ℕ, zero, suc, _+_, _*_, _/_, _^_, _≤_, _<_}
@@ -10,17 +10,18 @@ use lib.Dec.{eqb}
 use lib.ListN.{length}
 use Rattle.laws.specs.Lists.{joined}
 use Rattle.hash.specs.Double.{D, poolOf}
-use Rattle.generator.specs.Steps.{decode, encode, reseed, pseudoRandomData}
+use Rattle.generator.specs.Steps.{GeneratorState, decode, encode, reseed, pseudoRandomData}
 use Rattle.generator.specs.declared.Generator.{Generator}
 use Rattle.pools.specs.declared.Fortuna.{Fortuna}
 use Rattle.pools.specs.Events.{poolCount, eventBytes}
 use Rattle.pools.specs.Schedule.{used, usedPools}
 use Rattle.pools.specs.State.{fresh, poolAt, due}
 use Rattle.pools.specs.Refusals.{seedSize}
-use Rattle.pools.specs.Effects.{nextReseed, digests, poolReseed, reseedWithSeed}
-use Rattle.pools.specs.Calls.{Call, event, request, update, write, callNumber, step, stateAfter}
+use Rattle.pools.specs.Effects.{Effect, unchanged, nextReseed, digests, poolReseed, reseedWithSeed}
+use Rattle.pools.specs.Draws.{Drawn, trySize, tries, shuffled}
+use Rattle.pools.specs.Calls.{Call, event, request, update, write, draw, shuffle, callNumber, Outcome, step, stateAfter}
 use Rattle.reference.specs.Reference.{Accepted, select, consumedAt, referenceAfter}
-use Rattle.reference.specs.Timer.{readingOf, reseedsAfter}
+use Rattle.reference.specs.Timer.{requests, readingOf, reseedsAfter}
 
 -- the bytes that the call at a place put into its pool
 pub record Piece : Type 0 where
@@ -51,10 +52,7 @@ tracedFresh = record { state = fresh; reseeds = 0; pieces = λ i. []; uses = [] 
 
 -- an accepted call finds a pool reseed due
 unfoldable pub dueFor : Fortuna → Call → Bool
-dueFor s (event source pool content) = false
-dueFor s (request clock buffer) = due s clock
-dueFor s (update clock seed) = due s clock
-dueFor s (write clock seed) = due s clock
+dueFor s c = requests c && due s (readingOf c)
 
 -- what an accepted call puts into pool i
 unfoldable pub putsInto : ℕ → Call → ℕ → List Piece
@@ -63,6 +61,8 @@ putsInto place (event source pool content) i =
 putsInto place (request clock buffer) i = []
 putsInto place (update clock seed) i = []
 putsInto place (write clock seed) i = []
+putsInto place (draw clock n d) i = []
+putsInto place (shuffle clock list) i = []
 
 -- what the next pool reseed takes of pool i, and of all that it uses
 unfoldable pub useOf : Traced → ℕ → List PoolUse
@@ -116,28 +116,42 @@ atReseed s (event source pool content) = s
 atReseed s (request clock buffer) = s
 atReseed s (update clock seed) = reseedWithSeed s seed
 atReseed s (write clock seed) = s
+atReseed s (draw clock n d) = s
+atReseed s (shuffle clock list) = s
 
--- the bytes that a call asks of the generator
-unfoldable pub asked : Call → ℕ
-asked (event source pool content) = 0
-asked (request clock buffer) = length buffer
-asked (update clock seed) = seedSize
-asked (write clock seed) = seedSize
+-- a request for n bytes of K and C alone
+unfoldable pub served : ℕ → GeneratorState → Effect GeneratorState
+served n w =
+    let made = pseudoRandomData w n in
+    record { emptied = 0; buffer = made .bytes; next = made .next; trace = made .trace }
+
+-- what a call makes of K and C alone
+unfoldable pub madeFrom : GeneratorState → Call → Drawn GeneratorState
+madeFrom w (event source pool content) = record { found = true; value = 0; effect = unchanged [] w }
+madeFrom w (request clock buffer) = record { found = true; value = 0; effect = served (length buffer) w }
+madeFrom w (update clock seed) = record { found = true; value = 0; effect = served seedSize w }
+madeFrom w (write clock seed) = record { found = true; value = 0; effect = served seedSize w }
+madeFrom w (draw clock n d) = tries (served trySize) n d w
+madeFrom w (shuffle clock list) = shuffled (served trySize) list w
 
 -- the generator that a call's pool reseed leaves: K becomes D(K followed by the D of the strings)
 unfoldable pub reseededBy : List Call → Call → Generator
 reseededBy calls c =
     encode (reseed (decode (atReseed (stateAfter calls) c .generator)) (joined (λ u. D (erased (u .pieces))) (nextUses (traced calls))))
 
--- what is used enters the key, and a call that makes a pool reseed takes its bytes and its next K and C from that key
+-- an outcome's number, value, bytes and next K and C are these
+pub record TakenFrom (made : Drawn GeneratorState) (o : Outcome Fortuna) : Type 0 where
+  pub number : o .number ≡ cond (made .found) 0 33
+  pub value : o .value ≡ made .value
+  pub bytes : o .effect .buffer ≡ made .effect .buffer
+  pub next : o .effect .next .generator ≡ encode (made .effect .next)
+
+-- what is used enters the key, and a call that makes a pool reseed takes its answer and its next K and C from that key
 pub record EntersKey (calls : List Call) (c : Call) : Type 0 where
   pub key : poolReseed (atReseed (stateAfter calls) c) (readingOf c) .generator ≡ reseededBy calls c
-  pub bytes :
+  pub taken :
       callNumber (stateAfter calls) c ≡ 0 → dueFor (stateAfter calls) c ≡ true →
-      step (stateAfter calls) c .effect .buffer ≡ pseudoRandomData (decode (reseededBy calls c)) (asked c) .bytes
-  pub next :
-      callNumber (stateAfter calls) c ≡ 0 → dueFor (stateAfter calls) c ≡ true →
-      step (stateAfter calls) c .effect .next .generator ≡ encode (pseudoRandomData (decode (reseededBy calls c)) (asked c) .next)
+      TakenFrom (madeFrom (decode (reseededBy calls c)) c) (step (stateAfter calls) c)
 
 -- ---- what the schedule says
 

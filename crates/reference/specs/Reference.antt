@@ -1,7 +1,8 @@
 -- The reference model (01's plain logbook): a run worked out from the calls' arguments alone. It takes nothing of a Fortuna state or of
--- its answers. Shared with the station are only the refusal chains over plain values, `eventBytes`, `usedPools`, `D` and the generator's steps.
+-- its answers. Shared with the station are only the refusal chains over plain values, `eventBytes`, `usedPools`, `D`, the generator's steps and the
+-- rule of draws and shuffles.
 -- Assumes nothing.
-use mathlib.Core.Bool.{Bool, false, cond, _&&_, _||_}
+use mathlib.Core.Bool.{Bool, true, false, cond, _&&_, _||_}
 use mathlib.Core.List.{List, [], _∷_, _++_}
 use Prim.Native.Nat.{ℕ, _+_, _-_, _*_, _/_, _%_, _^_}
 use lib.Dec.{eqb, leb, ltb}
@@ -12,9 +13,10 @@ use Rattle.generator.specs.Steps.{GeneratorState, initial, reseed}
 use Rattle.generator.specs.Closed.{closedRandomData}
 use Rattle.pools.specs.Events.{eventBytes}
 use Rattle.pools.specs.Schedule.{usedPools}
-use Rattle.pools.specs.Refusals.{seedSize, eventNumber, requestNumber, writeNumber, updateNumber}
+use Rattle.pools.specs.Refusals.{seedSize, eventNumber, requestNumber, writeNumber, updateNumber, drawNumber, shuffleNumber}
 use Rattle.pools.specs.Effects.{Effect}
-use Rattle.pools.specs.Calls.{Call, event, request, update, write, inputBuffer, Outcome, outcome, runFrom, stateFrom}
+use Rattle.pools.specs.Draws.{trySize, tries, shuffled}
+use Rattle.pools.specs.Calls.{Call, event, request, update, write, draw, shuffle, inputBuffer, Outcome, outcome, runFrom, stateFrom}
 
 -- an accepted event: the place of its call in the list, its pool, the bytes that the pool gained, and its r, the R at that moment
 pub record Accepted : Type 0 where
@@ -119,6 +121,12 @@ referenceNumber b (event source pool content) = eventNumber false (length (poolC
 referenceNumber b (request clock buffer) = requestNumber false (b .generator .count) (dueAt b clock) (length buffer)
 referenceNumber b (update clock seed) = updateNumber false (b .generator .count) (dueAt b clock) seed
 referenceNumber b (write clock seed) = writeNumber false (b .generator .count) (dueAt b clock) seed
+referenceNumber b (draw clock n d) = drawNumber false (b .generator .count) (dueAt b clock) n d
+referenceNumber b (shuffle clock list) = shuffleNumber false (b .generator .count) (dueAt b clock) list
+
+-- a try at a reading is a request for 4 bytes
+unfoldable pub referenceTry : ℕ → Reference → Effect Reference
+referenceTry clock b = referenceRequest b clock trySize
 
 -- an update: the 64 bytes reseed the generator, then as a request for 64 bytes; a write: as a request for 64 bytes
 unfoldable pub referenceEffect : ℕ → Reference → Call → Effect Reference
@@ -127,9 +135,28 @@ referenceEffect place b (event source pool content) =
 referenceEffect place b (request clock buffer) = referenceRequest b clock (length buffer)
 referenceEffect place b (update clock seed) = referenceRequest (withState b (reseed (b .generator) seed)) clock seedSize
 referenceEffect place b (write clock seed) = referenceRequest b clock seedSize
+referenceEffect place b (draw clock n d) = tries (referenceTry clock) n d b .effect
+referenceEffect place b (shuffle clock list) = shuffled (referenceTry clock) list b .effect
+
+unfoldable pub referenceFound : Reference → Call → Bool
+referenceFound b (event source pool content) = true
+referenceFound b (request clock buffer) = true
+referenceFound b (update clock seed) = true
+referenceFound b (write clock seed) = true
+referenceFound b (draw clock n d) = tries (referenceTry clock) n d b .found
+referenceFound b (shuffle clock list) = shuffled (referenceTry clock) list b .found
+
+unfoldable pub referenceValue : Reference → Call → ℕ
+referenceValue b (event source pool content) = 0
+referenceValue b (request clock buffer) = 0
+referenceValue b (update clock seed) = 0
+referenceValue b (write clock seed) = 0
+referenceValue b (draw clock n d) = tries (referenceTry clock) n d b .value
+referenceValue b (shuffle clock list) = 0
 
 unfoldable pub referenceStep : ℕ → Reference → Call → Outcome Reference
-referenceStep place b c = outcome (referenceNumber b c) (inputBuffer c) b (referenceEffect place b c)
+referenceStep place b c =
+    outcome (referenceNumber b c) (referenceFound b c) (referenceValue b c) (inputBuffer c) b (referenceEffect place b c)
 
 unfoldable pub referenceRun : List Call → List (Outcome Reference)
 referenceRun calls = runFrom referenceStep 0 empty calls

@@ -1,15 +1,16 @@
 -- Demand 3, the timer, over the station's run and spelled out: when a call makes a pool reseed, and that nothing else moves the mark.
 -- Assumes nothing.
 use mathlib.Core.Path.{_≡_}
-use mathlib.Core.Bool.{cond}
+use mathlib.Core.Bool.{Bool, true, false, cond}
 use mathlib.Core.Logic.{_↔_, _⊎_}
 use mathlib.Core.List.{List, [], _∷_}
 use Prim.Native.Nat.{ℕ, _+_, _%_, _^_, _≤_, _<_}
 use lib.Dec.{ltb}
+use lib.ListN.{length}
 use Rattle.pools.specs.declared.Fortuna.{Fortuna}
 use Rattle.pools.specs.Schedule.{elapsed}
 use Rattle.pools.specs.State.{poolAt}
-use Rattle.pools.specs.Calls.{Call, event, request, update, write, Outcome, step, run, stateAfter}
+use Rattle.pools.specs.Calls.{Call, event, request, update, write, draw, shuffle, Outcome, step, run, stateAfter}
 
 -- the pool reseeds made in a run: the calls that emptied a pool
 unfoldable pub poolReseeds : List (Outcome Fortuna) → ℕ
@@ -19,18 +20,22 @@ poolReseeds (o ∷ os) = cond (ltb 0 (o .effect .emptied)) 1 0 + poolReseeds os
 unfoldable pub reseedsAfter : List Call → ℕ
 reseedsAfter calls = poolReseeds (run calls)
 
--- a call with a clock reading, and the reading
-abbrev pub Clocked : Call → Type 0
-Clocked (event source pool content) = ⊥
-Clocked (request clock buffer) = Unit {0}
-Clocked (update clock seed) = Unit {0}
-Clocked (write clock seed) = Unit {0}
+-- whether a call makes a request, or several; and its reading
+unfoldable pub requests : Call → Bool
+requests (event source pool content) = false
+requests (request clock buffer) = true
+requests (update clock seed) = true
+requests (write clock seed) = true
+requests (draw clock n d) = ltb 0 d
+requests (shuffle clock list) = ltb 1 (length list)
 
 unfoldable pub readingOf : Call → ℕ
 readingOf (event source pool content) = 0
 readingOf (request clock buffer) = clock
 readingOf (update clock seed) = clock
 readingOf (write clock seed) = clock
+readingOf (draw clock n d) = clock
+readingOf (shuffle clock list) = clock
 
 -- the clock shows `reading` e milliseconds after it showed `mark`
 abbrev pub Later : ℕ → ℕ → ℕ → Type 0
@@ -42,11 +47,11 @@ ElapsedLaw = (reading mark : ℕ) → Later mark (elapsed reading mark) reading
 
 -- whatever call comes next
 pub record TimerStep (calls : List Call) (c : Call) : Type 0 where
-  -- it empties pools exactly if it is accepted, has a reading, pool 0 holds 64 bytes or more, and no reseed was made yet or more than
-  -- 100 ms went by since the last
+  -- it empties pools exactly if it is not refused (33 comes after its tries), makes a request, pool 0 holds 64 bytes or more, and no
+  -- reseed was made yet or more than 100 ms went by since the last
   pub reseeds :
       (0 < step (stateAfter calls) c .effect .emptied)
-      ↔ ((step (stateAfter calls) c .number ≡ 0) × Clocked c × (64 ≤ poolAt (stateAfter calls) 0 .length)
+      ↔ (((step (stateAfter calls) c .number ≡ 0) ⊎ (step (stateAfter calls) c .number ≡ 33)) × (requests c ≡ true) × (64 ≤ poolAt (stateAfter calls) 0 .length)
       × ((reseedsAfter calls ≡ 0) ⊎ ((e : ℕ) × Later (stateAfter calls .«last_reseed») e (readingOf c) × (100 < e))))
   -- the mark moves exactly then, to the reading
   pub mark :

@@ -29,11 +29,11 @@ same-length c = search needs
 
 returns : tie.Need-returns
 unfolding callEffect
-returns c = gives-done (c .before .before .before .before .before .before .before .before .before .before .before .args .self) (request (c .before .before .before .before .before .before .before .before .before .before .before .args .clock) (c .before .before .before .before .before .before .before .before .before .before .before .args .out .now)) _ _ (request-number (c .before .before .before .before .before .before .before .before .before .before .before .args .self) (c .before .before .before .before .before .before .before .before .before .before .before .args .clock) _ _ _ (c .before .before .before .before .before .before .before .before .before .is-malformed .ensures) (c .before .before .before .before .before .before .before .before .is-due .ensures) (c .before .before .before .before .before .before .before .before .before .before .before .args .out .now) (c .before .before .before .before .before .before .before .request-answer .ensures)) (c .before .before .before .before .before .before .is-done .ensures) _ _ _ (c .before .before .before .before .before .if1 .taken) (c .before .before .before .serve .ensures)
+returns c = gives-done (c .before .before .before .before .before .before .before .before .before .before .before .args .self) (request (c .before .before .before .before .before .before .before .before .before .before .before .args .clock) (c .before .before .before .before .before .before .before .before .before .before .before .args .out .now)) _ _ (request-number (c .before .before .before .before .before .before .before .before .before .before .before .args .self) (c .before .before .before .before .before .before .before .before .before .before .before .args .clock) _ _ _ (c .before .before .before .before .before .before .before .before .before .is-malformed .ensures) (c .before .before .before .before .before .before .before .before .is-due .ensures) (c .before .before .before .before .before .before .before .before .before .before .before .args .out .now) (c .before .before .before .before .before .before .before .request-answer .ensures)) (c .before .before .before .before .before .before .is-done .ensures) tt _ _ _ (c .before .before .before .before .before .if1 .taken) (c .before .before .before .serve .ensures)
 
 returns-2 : tie.Need-returns-2
 unfolding inputBuffer
-returns-2 c = gives-kept (c .before .before .before .before .before .before .args .self) (request (c .before .before .before .before .before .before .args .clock) (c .before .before .before .before .before .before .args .out .now)) _ _ (request-number (c .before .before .before .before .before .before .args .self) (c .before .before .before .before .before .before .args .clock) _ _ _ (c .before .before .before .before .is-malformed .ensures) (c .before .before .before .is-due .ensures) (c .before .before .before .before .before .before .args .out .now) (c .before .before .request-answer .ensures)) (c .before .is-done .ensures) (c .if1 .left)
+returns-2 c = gives-kept (c .before .before .before .before .before .before .args .self) (request (c .before .before .before .before .before .before .args .clock) (c .before .before .before .before .before .before .args .out .now)) _ _ (request-number (c .before .before .before .before .before .before .args .self) (c .before .before .before .before .before .before .args .clock) _ _ _ (c .before .before .before .before .is-malformed .ensures) (c .before .before .before .is-due .ensures) (c .before .before .before .before .before .before .args .out .now) (c .before .before .request-answer .ensures)) (c .before .is-done .ensures) tt (c .if1 .left)
 
 pub random-data-spec : {M : Type 1} → statement M
 random-data-spec =

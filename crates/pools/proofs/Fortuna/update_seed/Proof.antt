@@ -36,7 +36,7 @@ returns : tie.Need-returns
 unfolding callNumber callEffect updateSeed
 returns c =
     let ok = is-accepted (c .before .before .before .before .before .before .before .before .before .before .before .before .before .before .before .args .self) (update (c .before .before .before .before .before .before .before .before .before .before .before .before .before .before .before .args .clock) (c .before .before .before .before .before .before .before .before .before .before .before .before .before .before .before .args .seed .now)) _ _ (update-number (c .before .before .before .before .before .before .before .before .before .before .before .before .before .before .before .args .self) (c .before .before .before .before .before .before .before .before .before .before .before .before .before .before .before .args .clock) _ _ _ (c .before .before .before .before .before .before .before .before .before .before .before .before .before .is-malformed .ensures) (c .before .before .before .before .before .before .before .before .before .before .before .before .is-due .ensures) (c .before .before .before .before .before .before .before .before .before .before .before .before .before .before .before .args .seed .now) (c .before .before .before .before .before .before .before .before .before .before .update-answer .ensures)) (c .before .before .before .before .before .before .before .before .before .is-done .ensures) (c .before .before .before .before .before .before .before .before .if1 .taken) in
-    gives-done (c .before .before .before .before .before .before .before .before .before .before .before .before .before .before .before .args .self) (update (c .before .before .before .before .before .before .before .before .before .before .before .before .before .before .before .args .clock) (c .before .before .before .before .before .before .before .before .before .before .before .before .before .before .before .args .seed .now)) _ _ (update-number (c .before .before .before .before .before .before .before .before .before .before .before .before .before .before .before .args .self) (c .before .before .before .before .before .before .before .before .before .before .before .before .before .before .before .args .clock) _ _ _ (c .before .before .before .before .before .before .before .before .before .before .before .before .before .is-malformed .ensures) (c .before .before .before .before .before .before .before .before .before .before .before .before .is-due .ensures) (c .before .before .before .before .before .before .before .before .before .before .before .before .before .before .before .args .seed .now) (c .before .before .before .before .before .before .before .before .before .before .update-answer .ensures)) (c .before .before .before .before .before .before .before .before .before .is-done .ensures) _ _ _ (c .before .before .before .before .before .before .before .before .if1 .taken)
+    gives-done (c .before .before .before .before .before .before .before .before .before .before .before .before .before .before .before .args .self) (update (c .before .before .before .before .before .before .before .before .before .before .before .before .before .before .before .args .clock) (c .before .before .before .before .before .before .before .before .before .before .before .before .before .before .before .args .seed .now)) _ _ (update-number (c .before .before .before .before .before .before .before .before .before .before .before .before .before .before .before .args .self) (c .before .before .before .before .before .before .before .before .before .before .before .before .before .before .before .args .clock) _ _ _ (c .before .before .before .before .before .before .before .before .before .before .before .before .before .is-malformed .ensures) (c .before .before .before .before .before .before .before .before .before .before .before .before .is-due .ensures) (c .before .before .before .before .before .before .before .before .before .before .before .before .before .before .before .args .seed .now) (c .before .before .before .before .before .before .before .before .before .before .update-answer .ensures)) (c .before .before .before .before .before .before .before .before .before .is-done .ensures) tt _ _ _ (c .before .before .before .before .before .before .before .before .if1 .taken)
     (update-serves (c .before .before .before .before .before .before .before .before .before .before .before .before .before .before .before .args .self) (c .before .before .before .before .before .before .before .before .before .before .before .before .before .before .before .args .clock) (c .before .before .before .before .before .before .before .before .before .before .before .before .before .before .before .args .seed .now) ok _ (c .before .before .before .before .before .before .reseed .ensures .1) _ _ _ (c .before .before .before .serve .ensures))
 
 same-length-2 : tie.Need-same-length-2
@@ -44,7 +44,7 @@ same-length-2 c = search needs
 
 returns-2 : tie.Need-returns-2
 unfolding inputBuffer
-returns-2 c = gives-kept (c .before .before .before .before .before .before .before .args .self) (update (c .before .before .before .before .before .before .before .args .clock) (c .before .before .before .before .before .before .before .args .seed .now)) _ _ (update-number (c .before .before .before .before .before .before .before .args .self) (c .before .before .before .before .before .before .before .args .clock) _ _ _ (c .before .before .before .before .before .is-malformed .ensures) (c .before .before .before .before .is-due .ensures) (c .before .before .before .before .before .before .before .args .seed .now) (c .before .before .update-answer .ensures)) (c .before .is-done .ensures) (c .if1 .left)
+returns-2 c = gives-kept (c .before .before .before .before .before .before .before .args .self) (update (c .before .before .before .before .before .before .before .args .clock) (c .before .before .before .before .before .before .before .args .seed .now)) _ _ (update-number (c .before .before .before .before .before .before .before .args .self) (c .before .before .before .before .before .before .before .args .clock) _ _ _ (c .before .before .before .before .before .is-malformed .ensures) (c .before .before .before .before .is-due .ensures) (c .before .before .before .before .before .before .before .args .seed .now) (c .before .before .update-answer .ensures)) (c .before .is-done .ensures) tt (c .if1 .left)
 
 pub update-seed-spec : {M : Type 1} → statement M
 update-seed-spec =

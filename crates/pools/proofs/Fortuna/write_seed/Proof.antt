@@ -31,14 +31,14 @@ returns : tie.Need-returns
 unfolding callNumber callEffect writeSeed
 returns c =
     let ok = is-accepted (c .before .before .before .before .before .before .before .before .before .before .before .before .args .self) (write (c .before .before .before .before .before .before .before .before .before .before .before .before .args .clock) (c .before .before .before .before .before .before .before .before .before .before .before .before .args .seed .now)) _ _ (write-number (c .before .before .before .before .before .before .before .before .before .before .before .before .args .self) (c .before .before .before .before .before .before .before .before .before .before .before .before .args .clock) _ _ _ (c .before .before .before .before .before .before .before .before .before .before .is-malformed .ensures) (c .before .before .before .before .before .before .before .before .before .is-due .ensures) (c .before .before .before .before .before .before .before .before .before .before .before .before .args .seed .now) (c .before .before .before .before .before .before .before .write-answer .ensures)) (c .before .before .before .before .before .before .is-done .ensures) (c .before .before .before .before .before .if1 .taken) in
-    gives-done (c .before .before .before .before .before .before .before .before .before .before .before .before .args .self) (write (c .before .before .before .before .before .before .before .before .before .before .before .before .args .clock) (c .before .before .before .before .before .before .before .before .before .before .before .before .args .seed .now)) _ _ (write-number (c .before .before .before .before .before .before .before .before .before .before .before .before .args .self) (c .before .before .before .before .before .before .before .before .before .before .before .before .args .clock) _ _ _ (c .before .before .before .before .before .before .before .before .before .before .is-malformed .ensures) (c .before .before .before .before .before .before .before .before .before .is-due .ensures) (c .before .before .before .before .before .before .before .before .before .before .before .before .args .seed .now) (c .before .before .before .before .before .before .before .write-answer .ensures)) (c .before .before .before .before .before .before .is-done .ensures) _ _ _ (c .before .before .before .before .before .if1 .taken) (write-serves (c .before .before .before .before .before .before .before .before .before .before .before .before .args .self) (c .before .before .before .before .before .before .before .before .before .before .before .before .args .clock) (c .before .before .before .before .before .before .before .before .before .before .before .before .args .seed .now) ok _ _ _ (c .before .before .before .serve .ensures))
+    gives-done (c .before .before .before .before .before .before .before .before .before .before .before .before .args .self) (write (c .before .before .before .before .before .before .before .before .before .before .before .before .args .clock) (c .before .before .before .before .before .before .before .before .before .before .before .before .args .seed .now)) _ _ (write-number (c .before .before .before .before .before .before .before .before .before .before .before .before .args .self) (c .before .before .before .before .before .before .before .before .before .before .before .before .args .clock) _ _ _ (c .before .before .before .before .before .before .before .before .before .before .is-malformed .ensures) (c .before .before .before .before .before .before .before .before .before .is-due .ensures) (c .before .before .before .before .before .before .before .before .before .before .before .before .args .seed .now) (c .before .before .before .before .before .before .before .write-answer .ensures)) (c .before .before .before .before .before .before .is-done .ensures) tt _ _ _ (c .before .before .before .before .before .if1 .taken) (write-serves (c .before .before .before .before .before .before .before .before .before .before .before .before .args .self) (c .before .before .before .before .before .before .before .before .before .before .before .before .args .clock) (c .before .before .before .before .before .before .before .before .before .before .before .before .args .seed .now) ok _ _ _ (c .before .before .before .serve .ensures))
 
 same-length-2 : tie.Need-same-length-2
 same-length-2 c = search needs
 
 returns-2 : tie.Need-returns-2
 unfolding inputBuffer
-returns-2 c = gives-kept (c .before .before .before .before .before .before .before .args .self) (write (c .before .before .before .before .before .before .before .args .clock) (c .before .before .before .before .before .before .before .args .seed .now)) _ _ (write-number (c .before .before .before .before .before .before .before .args .self) (c .before .before .before .before .before .before .before .args .clock) _ _ _ (c .before .before .before .before .before .is-malformed .ensures) (c .before .before .before .before .is-due .ensures) (c .before .before .before .before .before .before .before .args .seed .now) (c .before .before .write-answer .ensures)) (c .before .is-done .ensures) (c .if1 .left)
+returns-2 c = gives-kept (c .before .before .before .before .before .before .before .args .self) (write (c .before .before .before .before .before .before .before .args .clock) (c .before .before .before .before .before .before .before .args .seed .now)) _ _ (write-number (c .before .before .before .before .before .before .before .args .self) (c .before .before .before .before .before .before .before .args .clock) _ _ _ (c .before .before .before .before .before .is-malformed .ensures) (c .before .before .before .before .is-due .ensures) (c .before .before .before .before .before .before .before .args .seed .now) (c .before .before .write-answer .ensures)) (c .before .is-done .ensures) tt (c .if1 .left)
 
 pub write-seed-spec : {M : Type 1} → statement M
 write-seed-spec =
