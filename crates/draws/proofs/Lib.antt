@@ -1,0 +1,4 @@
+pub mod Trying
+pub mod Shuffling
+pub mod Copies
+pub mod Answers
