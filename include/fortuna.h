@@ -1,11 +1,12 @@
 /* Fortuna with its pools, timer and seeds, the generator alone, SHA-256, D and AES-256: the static library fortuna_c.
 
-   The caller sees to it that a pointer points to as many bytes as its length says and is not null, not even
-   at length 0, and that a buffer overlaps nothing else that the same call is lent. Then every call returns,
-   and none allocates, keeps a pointer, or reads or changes anything but what it is lent.
+   The caller sees to it that a pointer points to as many bytes, or numbers of a list, as its length says and is not
+   null, not even at length 0, and that a buffer overlaps nothing else that the same call is lent. Then every call
+   returns, and none allocates, keeps a pointer, or reads or changes anything but what it is lent.
 
    Numbers returned: FORTUNA_DONE, or the number of a refusal, the first in the order of the list below where more than
-   one applies. After a refusal buffers and state are as before; pools emptied are 0.
+   one applies. After a refusal buffers and state are as before; pools emptied are 0. FORTUNA_NONE_DRAWN differs: the
+   call's tries were made, so that the state has advanced, and pools may have been emptied; a list is as before.
    No call is refused for another reason. */
 #ifndef FORTUNA_H
 #define FORTUNA_H
@@ -34,6 +35,10 @@ enum {
     FORTUNA_NO_FRAME = 16,
     /* a message above 2^61 - 1 bytes, or a seed for the generator alone above 2^61 - 33 bytes */
     FORTUNA_TOO_LONG = 17,
+    /* a draw: n outside 1 to 2^32. A shuffle: more than 256 numbers, or two that are equal */
+    FORTUNA_SLOT_RANGE = 31,
+    /* a draw: tries outside 1 to 64 */
+    FORTUNA_TRY_RANGE = 32,
     /* a malformed state, which no run of calls leaves: a pool length above 2^61 - 1; a byte after a pool's tail that is
        not 0; a pool below 64 bytes whose chain is not SHA-256's initial value; counter 0 with a key that is not all
        zero; counter 0 with reseeded set; reseeded clear with a last_reseed or a reseed_count that is not 0. For the
@@ -41,11 +46,13 @@ enum {
     FORTUNA_MALFORMED = 21,
     /* an event: its pool's length with the 2 bytes of header and the data would pass 2^61 - 1 */
     FORTUNA_POOL_FULL = 22,
-    /* a request or a seed write with counter 0 and no pool reseed due. For the generator alone: blocks or a request
-       with counter 0 */
+    /* a request, a seed write, a draw or a shuffle of 2 numbers or more, with counter 0 and no pool reseed due. For the
+       generator alone: blocks or a request with counter 0 */
     FORTUNA_UNSEEDED = 23,
-    /* a counter that would grow above 2^128 - 1 */
-    FORTUNA_COUNTER_SPENT = 24
+    /* a counter that would grow above 2^128 - 1, for a draw or a shuffle if it made all its tries */
+    FORTUNA_COUNTER_SPENT = 24,
+    /* a draw, or one of a shuffle's: no try fell below n */
+    FORTUNA_NONE_DRAWN = 33
 };
 
 /* SHA-256 (FIPS 180-4) of length bytes at data, into 32 bytes at digest.
@@ -146,6 +153,13 @@ typedef struct {
     uint32_t emptied;
 } fortuna_answer;
 
+/* The same, and the value drawn, 0 unless the number is FORTUNA_DONE. */
+typedef struct {
+    uint32_t number;
+    uint32_t emptied;
+    uint64_t value;
+} fortuna_draw;
+
 /* The state before anything: unseeded, with empty pools. */
 fortuna_state fortuna_new(void);
 
@@ -168,6 +182,22 @@ fortuna_answer fortuna_update(fortuna_state *state, uint32_t clock, uint8_t *see
 /* A request for 64 bytes overwrites the 64 bytes at seed, for the next start.
    FORTUNA_DONE, FORTUNA_BAD_SEED, FORTUNA_MALFORMED, FORTUNA_UNSEEDED or FORTUNA_COUNTER_SPENT. */
 fortuna_answer fortuna_write(fortuna_state *state, uint32_t clock, uint8_t *seed, size_t length);
+
+/* Draws a value below n, n from 1 to 2^32, in up to tries tries, 1 to 64. A try is a request for 4 bytes at clock. Of
+   the number that they hold, least significant byte first, it keeps the low k bits, k the smallest with n <= 2^k. The
+   first that is below n is the value, and ends the tries: each value comes from equally many 4-byte strings. If none is
+   below n, the number is FORTUNA_NONE_DRAWN, the value 0, and the state has advanced by all the tries.
+   FORTUNA_DONE, FORTUNA_SLOT_RANGE, FORTUNA_TRY_RANGE, FORTUNA_MALFORMED, FORTUNA_UNSEEDED, FORTUNA_COUNTER_SPENT or
+   FORTUNA_NONE_DRAWN. */
+fortuna_draw fortuna_random_below(fortuna_state *state, uint32_t clock, uint64_t n, uint32_t tries);
+
+/* Shuffles the length numbers at list, at most 256 and no two equal. From the last place p, counted from 0, down to 1 a
+   place below p + 1 is drawn, in up to 64 tries, and the numbers at the two places change with each other. A draw
+   without a value ends it with FORTUNA_NONE_DRAWN: the list is as before, and the state has advanced by the tries made.
+   FORTUNA_DONE, FORTUNA_SLOT_RANGE, FORTUNA_MALFORMED, FORTUNA_UNSEEDED, FORTUNA_COUNTER_SPENT or FORTUNA_NONE_DRAWN.
+   A list of 0 or 1 numbers makes no request, so that list and state are as before; FORTUNA_DONE or
+   FORTUNA_MALFORMED. */
+fortuna_answer fortuna_shuffle(fortuna_state *state, uint32_t clock, uint16_t *list, size_t length);
 
 /* Runs a log of calls from the state before anything. The log is length characters, a frame to a line, in capital
    hexadecimal, at most 256 characters: 01 and source, pool, data for an event; 02 and clock, n for a request of n

@@ -1,11 +1,12 @@
 /* A digitiser from start to stop: the stored seed goes in and its successor is stored before any key is drawn, noise
-   goes in as events, link keys come out. Noise, clock and flash page are stand-ins, so each run prints the same. */
+   goes in as events, link keys, a radio slot and the order of a polling list come out. Noise, clock and flash page are
+   stand-ins, so each run prints the same. */
 #include "fortuna.h"
 
 #include <stdio.h>
 #include <stdlib.h>
 
-enum { SOURCES = 3, TURNS = 64, DATA = 16, POOLS = 32, SEED = 64, KEY = 32 };
+enum { SOURCES = 3, TURNS = 64, DATA = 16, POOLS = 32, SEED = 64, KEY = 32, SLOTS = 100, TRIES = 64, STATIONS = 8 };
 
 /* Stands in for the page of flash memory that keeps the seed. */
 static uint8_t flash[SEED] = "a seed from the workshop, other bytes for each digitiser";
@@ -23,6 +24,10 @@ static const char *reason(uint32_t number)
         return "more than 1,048,576 bytes asked for";
     case FORTUNA_BAD_SEED:
         return "a seed that is not 64 bytes";
+    case FORTUNA_SLOT_RANGE:
+        return "a bound outside 1 to 2^32, or a list that is too long or repeats a number";
+    case FORTUNA_TRY_RANGE:
+        return "tries outside 1 to 64";
     case FORTUNA_MALFORMED:
         return "a malformed state";
     case FORTUNA_POOL_FULL:
@@ -31,6 +36,8 @@ static const char *reason(uint32_t number)
         return "no seed and too little noise";
     case FORTUNA_COUNTER_SPENT:
         return "the counter is spent";
+    case FORTUNA_NONE_DRAWN:
+        return "no try gave a value";
     default:
         return "a number that these calls don't have";
     }
@@ -94,6 +101,30 @@ static void misplace_event(fortuna_state *f)
         printf("event for pool %d: refused, %u (%s)\n", POOLS, number, reason(number));
 }
 
+/* A radio slot, or why there is none: after FORTUNA_NONE_DRAWN a caller can draw again, from the state that is left. */
+static void draw_slot(fortuna_state *f, uint32_t clock)
+{
+    fortuna_draw d = fortuna_random_below(f, clock, SLOTS, TRIES);
+    if (d.number != FORTUNA_DONE) {
+        printf("slot at %u ms: refused, %u (%s)\n", clock, d.number, reason(d.number));
+        return;
+    }
+    printf("slot at %u ms, pools emptied %u: %u\n", clock, d.emptied, (unsigned)d.value);
+}
+
+/* The order in which a hub polls its stations. */
+static void order_stations(fortuna_state *f, uint32_t clock)
+{
+    uint16_t list[STATIONS];
+    for (uint16_t i = 0; i < STATIONS; i++)
+        list[i] = (uint16_t)(i + 1);
+    must("shuffle", fortuna_shuffle(f, clock, list, STATIONS).number);
+    printf("polling list:");
+    for (size_t i = 0; i < STATIONS; i++)
+        printf(" %u", list[i]);
+    printf("\n");
+}
+
 /* A stored log of calls, run in one call from a fresh station: an event, a request, and a line that is no frame. */
 static void run_log(void)
 {
@@ -116,6 +147,8 @@ int main(void)
     draw_key(&f, 1000);
     draw_key(&f, 1050);
     misplace_event(&f);
+    draw_slot(&f, 1200);
+    order_stations(&f, 1250);
 
     must("seed write", fortuna_write(&f, 2000, flash, sizeof flash).number);
     printf("seed for the next start: ");

@@ -5,6 +5,7 @@ use mathlib.Core.List.{List}
 use Prim.Native.Nat.{ℕ}
 use Rattle.pools.specs.Calls.{Outcome}
 use Rattle.pools.specs.declared.Fortuna.{Fortuna}
+use Rattle.fortuna_c.specs.declared.slot_draws.FortunaDraw.{FortunaDraw}
 use Rattle.fortuna_c.specs.declared.station.FortunaAnswer.{FortunaAnswer}
 
 -- its number, and the next state
@@ -14,3 +15,7 @@ Leaves o n s = (n ≡ o .number) × (s ≡ o .effect .next)
 -- also the pools emptied, and what the lent buffer then holds
 abbrev pub LeavesBytes : Outcome Fortuna → FortunaAnswer → Fortuna → List ℕ → Type 0
 LeavesBytes o r s buffer = Leaves o (r .number) s × (r .emptied ≡ o .effect .emptied) × (buffer ≡ o .effect .buffer)
+
+-- or the pools emptied and the value drawn
+abbrev pub LeavesValue : Outcome Fortuna → FortunaDraw → Fortuna → Type 0
+LeavesValue o r s = Leaves o (r .number) s × (r .emptied ≡ o .effect .emptied) × (r .value ≡ o .value)

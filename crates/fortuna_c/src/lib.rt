@@ -2,6 +2,7 @@
 mod aes256;
 mod fortuna_generator;
 mod sha256;
+mod slot_draws;
 mod station;
 mod whole_log;
 
@@ -15,6 +16,9 @@ pub use fortuna_generator::fortuna_generator_request;
 pub use fortuna_generator::fortuna_generator_reseed;
 pub use sha256::fortuna_double_sha256;
 pub use sha256::fortuna_sha256;
+pub use slot_draws::FortunaDraw;
+pub use slot_draws::fortuna_random_below;
+pub use slot_draws::fortuna_shuffle;
 pub use station::FortunaAnswer;
 pub use station::fortuna_event;
 pub use station::fortuna_new;

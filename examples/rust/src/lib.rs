@@ -2,7 +2,8 @@
 use std::fmt;
 use std::mem::size_of;
 
-/// Why a call was refused, with the number of the header. After a refusal state and buffers are as before.
+/// Why a call was refused, with the number of the header. After a refusal state and buffers are as before, save that
+/// after `NoneDrawn` the state has advanced by the tries made.
 #[derive(Clone, Copy, Debug, PartialEq, Eq)]
 pub enum Refusal {
     BadSource = 11,
@@ -14,6 +15,9 @@ pub enum Refusal {
     PoolFull = 22,
     Unseeded = 23,
     CounterSpent = 24,
+    SlotRange = 31,
+    TryRange = 32,
+    NoneDrawn = 33,
 }
 
 impl Refusal {
@@ -28,6 +32,9 @@ impl Refusal {
             22 => Refusal::PoolFull,
             23 => Refusal::Unseeded,
             24 => Refusal::CounterSpent,
+            31 => Refusal::SlotRange,
+            32 => Refusal::TryRange,
+            33 => Refusal::NoneDrawn,
             _ => unreachable!("the header has no number {number} for these calls"),
         }
     }
@@ -43,6 +50,11 @@ impl Refusal {
             Refusal::PoolFull => "a full pool",
             Refusal::Unseeded => "no seed and too little noise",
             Refusal::CounterSpent => "the counter is spent",
+            Refusal::SlotRange => {
+                "a bound outside 1 to 2^32, or a list that is too long or repeats a number"
+            }
+            Refusal::TryRange => "tries outside 1 to 64",
+            Refusal::NoneDrawn => "no try gave a value",
         }
     }
 }
@@ -54,6 +66,34 @@ impl fmt::Display for Refusal {
 }
 
 impl std::error::Error for Refusal {}
+
+/// A value drawn, and how many pools were emptied.
+#[derive(Clone, Copy, Debug, PartialEq, Eq)]
+pub struct Drawn {
+    pub value: u64,
+    pub emptied: u32,
+}
+
+/// Why a draw or a shuffle was not done, and how many pools were emptied, 0 unless the reason is `NoneDrawn`.
+#[derive(Clone, Copy, Debug, PartialEq, Eq)]
+pub struct NotDrawn {
+    pub refusal: Refusal,
+    pub emptied: u32,
+}
+
+impl fmt::Display for NotDrawn {
+    fn fmt(&self, f: &mut fmt::Formatter) -> fmt::Result {
+        self.refusal.fmt(f)
+    }
+}
+
+impl std::error::Error for NotDrawn {}
+
+impl From<NotDrawn> for Refusal {
+    fn from(not_drawn: NotDrawn) -> Refusal {
+        not_drawn.refusal
+    }
+}
 
 #[repr(C)]
 struct Generator {
@@ -83,8 +123,16 @@ struct Answer {
     emptied: u32,
 }
 
+#[repr(C)]
+struct Draw {
+    number: u32,
+    emptied: u32,
+    value: u64,
+}
+
 // The sizes that the header's structs have in C.
 const _: () = assert!(size_of::<Pool>() == 104 && size_of::<State>() == 3392);
+const _: () = assert!(size_of::<Answer>() == 8 && size_of::<Draw>() == 16);
 
 extern "C" {
     fn fortuna_new() -> State;
@@ -98,6 +146,8 @@ extern "C" {
     fn fortuna_request(state: *mut State, clock: u32, out: *mut u8, length: usize) -> Answer;
     fn fortuna_update(state: *mut State, clock: u32, seed: *mut u8, length: usize) -> Answer;
     fn fortuna_write(state: *mut State, clock: u32, seed: *mut u8, length: usize) -> Answer;
+    fn fortuna_random_below(state: *mut State, clock: u32, n: u64, tries: u32) -> Draw;
+    fn fortuna_shuffle(state: *mut State, clock: u32, list: *mut u16, length: usize) -> Answer;
     fn fortuna_log(log: *const u8, length: usize, out: *mut u8, room: usize) -> usize;
 }
 
@@ -139,12 +189,39 @@ impl Fortuna {
     pub fn write(&mut self, clock: u32, seed: &mut [u8; 64]) -> Result<u32, Refusal> {
         result(unsafe { fortuna_write(&mut self.state, clock, seed.as_mut_ptr(), seed.len()) })
     }
+
+    /// A value below `n`, 1 to 2^32, in up to `tries` tries, 1 to 64.
+    pub fn random_below(&mut self, clock: u32, n: u64, tries: u32) -> Result<Drawn, NotDrawn> {
+        let draw = unsafe { fortuna_random_below(&mut self.state, clock, n, tries) };
+        let emptied = drawn(draw.number, draw.emptied)?;
+        Ok(Drawn {
+            value: draw.value,
+            emptied,
+        })
+    }
+
+    /// Shuffles up to 256 numbers, no two of them equal. Gives how many pools were emptied.
+    pub fn shuffle(&mut self, clock: u32, list: &mut [u16]) -> Result<u32, NotDrawn> {
+        let answer =
+            unsafe { fortuna_shuffle(&mut self.state, clock, list.as_mut_ptr(), list.len()) };
+        drawn(answer.number, answer.emptied)
+    }
 }
 
 fn result(answer: Answer) -> Result<u32, Refusal> {
     match answer.number {
         0 => Ok(answer.emptied),
         number => Err(Refusal::from_number(number)),
+    }
+}
+
+fn drawn(number: u32, emptied: u32) -> Result<u32, NotDrawn> {
+    match number {
+        0 => Ok(emptied),
+        number => Err(NotDrawn {
+            refusal: Refusal::from_number(number),
+            emptied,
+        }),
     }
 }
 

@@ -1,11 +1,13 @@
 //! A digitiser from start to stop: the stored seed goes in and its successor is stored before any
-//! key is drawn, noise goes in as events, link keys come out. Noise, clock and flash page are
-//! stand-ins, so that each run prints the same.
-use fortuna::{run_log, Fortuna, Refusal};
+//! key is drawn, noise goes in as events, link keys, a radio slot and the order of a polling list
+//! come out. Noise, clock and flash page are stand-ins, so that each run prints the same.
+use fortuna::{run_log, Drawn, Fortuna, Refusal};
 
 const SOURCES: u32 = 3;
 const TURNS: u32 = 64;
 const POOLS: u32 = 32;
+const SLOTS: u64 = 100;
+const TRIES: u32 = 64;
 
 /// Stands in for the page of flash memory that keeps the seed.
 fn stored_seed() -> [u8; 64] {
@@ -54,6 +56,25 @@ fn misplace_event(f: &mut Fortuna) {
     }
 }
 
+/// A radio slot, or why there is none: after `NoneDrawn` a caller can draw again, from the state that is left.
+fn draw_slot(f: &mut Fortuna, clock: u32) {
+    match f.random_below(clock, SLOTS, TRIES) {
+        Ok(Drawn { value, emptied }) => {
+            println!("slot at {clock} ms, pools emptied {emptied}: {value}")
+        }
+        Err(not_drawn) => println!("slot at {clock} ms: {not_drawn}"),
+    }
+}
+
+/// The order in which a hub polls its stations.
+fn order_stations(f: &mut Fortuna, clock: u32) -> Result<(), Refusal> {
+    let mut list = [1, 2, 3, 4, 5, 6, 7, 8];
+    f.shuffle(clock, &mut list)?;
+    let order: Vec<String> = list.iter().map(u16::to_string).collect();
+    println!("polling list: {}", order.join(" "));
+    Ok(())
+}
+
 /// A stored log of calls, run in one call: an event, a request, and a line that is no frame.
 fn replay() {
     let mut answers = [0; 64];
@@ -76,6 +97,8 @@ fn main() -> Result<(), Refusal> {
     draw_key(&mut f, 1000);
     draw_key(&mut f, 1050);
     misplace_event(&mut f);
+    draw_slot(&mut f, 1200);
+    order_stations(&mut f, 1250)?;
 
     f.write(2000, &mut flash)?;
     println!("seed for the next start: {}", hexadecimal(&flash));
