@@ -37,7 +37,11 @@ def lines():
     yield key_line(1050, second)
     refused = station.event(second.next, 0, 32, sample(0, 0))
     yield f"event for pool 32: refused, {refused.number} (no such pool)"
-    yield f"seed for the next start: {station.write(refused.next, 2000, updated.buffer).buffer.hex()}"
+    slot = station.draw(refused.next, 1200, 100, 64)
+    yield f"slot at 1200 ms, pools emptied {slot.emptied}: {slot.buffer}"
+    shuffled = station.shuffle(slot.next, 1250, tuple(range(1, 9)))
+    yield f"polling list: {' '.join(map(str, shuffled.buffer))}"
+    yield f"seed for the next start: {station.write(shuffled.next, 2000, updated.buffer).buffer.hex()}"
     yield "a log's answers:"
     yield from (line.decode().rstrip() for line in logbook.answers(io.BytesIO(LOG)))
 

@@ -25,6 +25,9 @@ SHORTENING = 20  # seconds
 class Writer:
     """Writes one log. It keeps the logbook of what it wrote, so that it can aim at the bounds."""
 
+    form = frames  # what makes a call's line
+    lengths = ([1, 5, 40, 150, 1500], [4, 4, 8, 4, 0.5])  # of a log, with their weights
+
     def __init__(self, chance):
         self.chance = chance
         self.book = Logbook()
@@ -69,21 +72,21 @@ class Writer:
     def event(self):
         pool = self.one_of([0, self.chance.randrange(6), self.chance.randrange(32), 32, 255], [10, 6, 6, 1, 0.5])
         source = self.chance.choice([0, 1, 2, 255, self.chance.randrange(256)])
-        return frames.event(source, pool, self.data())
+        return self.form.event(source, pool, self.data())
 
     def filling(self):
         """An event that brings pool 0 to 63, 64 or 65 bytes, where one can."""
         size = self.chance.choice([63, 64, 64, 65]) - self.book.length(0) - 2
-        return frames.event(self.chance.randrange(256), 0, self.chance.randbytes(min(max(size, 1), 32)))
+        return self.form.event(self.chance.randrange(256), 0, self.chance.randbytes(min(max(size, 1), 32)))
 
     def request(self):
-        return frames.request(self.reading(), self.size())
+        return self.form.request(self.reading(), self.size())
 
     def update(self):
-        return frames.update(self.reading(), self.seed_bytes())
+        return self.form.update(self.reading(), self.seed_bytes())
 
     def write(self):
-        return frames.write(self.reading())
+        return self.form.write(self.reading())
 
     def right(self):
         makers = [self.event, self.filling, self.request, self.update, self.write]
@@ -122,11 +125,15 @@ class Writer:
         makers = [self.right, self.bent, self.stretched, lambda: b""]
         return self.one_of(makers, [30, 5, 1, 0.5])()
 
+    def output(self, line):
+        """The bytes that a line gives, in hexadecimal."""
+        return answer(self.book, line)[6:]
+
     def log(self):
         lines = []
-        for _ in range(self.one_of([1, 5, 40, 150, 1500], [4, 4, 8, 4, 0.5])):
+        for _ in range(self.one_of(*self.lengths)):
             lines.append(self.line())
-            output = answer(self.book, lines[-1])[6:]
+            output = self.output(lines[-1])
             if len(output) == 128:
                 self.seed = bytes.fromhex(output.decode())
         return b"\n".join(lines) + self.chance.choice([b"\n", b"\n", b""])
@@ -134,16 +141,16 @@ class Writer:
 
 # ---- comparing
 
-def difference(program, log):
+def difference(program, log, answers):
     """Why the program's answers are not the logbook's; None where they are."""
     try:
-        compare(log, answers_to(log), run(program, log))
+        compare(log, answers(log), run(program, log))
     except Failure as why:
         return str(why)
     return None
 
 
-def shortened(program, log):
+def shortened(program, log, answers):
     """The log without lines that the difference does not need: halves first, then ever smaller parts."""
     end = time.monotonic() + SHORTENING
     lines = log.split(b"\n")
@@ -152,7 +159,7 @@ def shortened(program, log):
         start = 0
         while start < len(lines) and time.monotonic() < end:
             fewer = lines[:start] + lines[start + part :]
-            if difference(program, b"\n".join(fewer)):
+            if difference(program, b"\n".join(fewer), answers):
                 lines = fewer
             else:
                 start += part
@@ -160,23 +167,24 @@ def shortened(program, log):
     return b"\n".join(lines)
 
 
-def report(program, log):
-    short = shortened(program, log)
+def report(program, log, answers):
+    short = shortened(program, log, answers)
     path = Path(tempfile.mkdtemp(prefix="fuzz-")) / "failing.log"
     path.write_bytes(short)
-    path.with_suffix(".answers").write_bytes(answers_to(short))
-    print(f"FAIL  {difference(program, short)}")
+    path.with_suffix(".answers").write_bytes(answers(short))
+    print(f"FAIL  {difference(program, short, answers)}")
     print(f"the log is {path}, what tests/logbook.py answers is beside it")
 
 
-def fuzz(program, seconds, seed):
+def fuzz(program, seconds, seed, writer=Writer, answers=answers_to):
+    """Logs by a writer, whose right answers a function works out."""
     chance = random.Random(seed)
     start = shown = time.monotonic()
     logs = lines = 0
     while time.monotonic() < start + seconds:
-        log = Writer(chance).log()
-        if difference(program, log):
-            report(program, log)
+        log = writer(chance).log()
+        if difference(program, log, answers):
+            report(program, log, answers)
             return 1
         logs += 1
         lines += log.count(b"\n")

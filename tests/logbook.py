@@ -5,7 +5,8 @@
 
 It holds no pools. It notes each accepted event with its r, the pool reseeds made before it, and works out from r which
 reseed the event is booked for; what a pool holds or gives follows from the bookings. Nothing is taken from the station.
-SHA-256 is Python's hashlib, AES-256 is tests/aes256.py."""
+Draws and shuffles (02, i) are calls of it too, though no frame makes one; tests/slots.py runs them. SHA-256 is Python's
+hashlib, AES-256 is tests/aes256.py."""
 import sys
 from collections import defaultdict, namedtuple
 
@@ -16,6 +17,11 @@ from sha256 import INITIAL, MAX_MESSAGE, compress
 POOLS = 32
 SEED_SIZE = 64
 CLOCK = 2**32
+MAX_BELOW = 2**32
+MAX_TRIES = 64
+MAX_LIST = 256
+TRY_SIZE = 4
+TRY_BLOCKS = 3  # of a request of 4 bytes
 
 Event = namedtuple("Event", "source pool data r")
 Pool = namedtuple("Pool", "chain tail length")
@@ -42,7 +48,8 @@ def running(content):
 
 
 class Logbook:
-    """A call gives its number (0: accepted), the count of pools emptied, and the lent buffer afterwards."""
+    """A call gives its number (0: accepted), the count of pools emptied, and the lent buffer or list afterwards; a draw
+    in its place the value, 0 where none was drawn."""
 
     def __init__(self):
         self.generator = generator.FRESH
@@ -119,6 +126,20 @@ class Logbook:
             return 15
         return self.output_refusal(clock, block_count(SEED_SIZE) + 2)
 
+    def draw_refusal(self, clock, n, tries):
+        if not 1 <= n <= MAX_BELOW:
+            return 31
+        if not 1 <= tries <= MAX_TRIES:
+            return 32
+        return self.output_refusal(clock, TRY_BLOCKS * tries)
+
+    def shuffle_refusal(self, clock, numbers, tries):
+        if len(numbers) > MAX_LIST or len(set(numbers)) < len(numbers):
+            return 31
+        if len(numbers) < 2:
+            return 0  # it makes no request
+        return self.output_refusal(clock, TRY_BLOCKS * tries * (len(numbers) - 1))
+
     # ---- the calls
 
     def event(self, source, pool, data):
@@ -144,6 +165,15 @@ class Logbook:
         refusal = self.write_refusal(clock, seed)
         return (refusal, 0, seed) if refusal else self.output(clock, SEED_SIZE)
 
+    def draw(self, clock, n, tries):
+        refusal = self.draw_refusal(clock, n, tries)
+        return (refusal, 0, 0) if refusal else self.drawn(clock, n, tries)
+
+    def shuffle(self, clock, numbers, tries=MAX_TRIES):
+        """Of a draw with 64 tries nobody has seen 33; fewer serve to see what a shuffle does then."""
+        refusal = self.shuffle_refusal(clock, numbers, tries)
+        return (refusal, 0, numbers) if refusal else self.shuffled(clock, numbers, tries)
+
     # ---- what an accepted call does
 
     def reseed_generator(self, seed):
@@ -165,6 +195,30 @@ class Logbook:
         number, self.generator = generator.request(self.generator, buffer)
         assert number == 0
         return 0, emptied, bytes(buffer)
+
+    def drawn(self, clock, n, tries):
+        """Tries, each a request, up to the first below n; 33 where none is."""
+        bits = (n - 1).bit_length()
+        emptied = 0
+        for _ in range(tries):
+            _, more, given = self.output(clock, TRY_SIZE)
+            emptied += more
+            value = int.from_bytes(given, "little") % 2**bits
+            if value < n:
+                return 0, emptied, value
+        return 33, emptied, 0
+
+    def shuffled(self, clock, numbers, tries):
+        """From the last place down to 1, its entry changes with that of the place drawn."""
+        entries = list(numbers)
+        emptied = 0
+        for last in range(len(numbers) - 1, 0, -1):
+            number, more, place = self.drawn(clock, last + 1, tries)
+            emptied += more
+            if number:
+                return number, emptied, numbers
+            entries[last], entries[place] = entries[place], entries[last]
+        return 0, emptied, tuple(entries)
 
 
 # ---- bench lines

@@ -252,32 +252,39 @@ def first_difference(expected, found):
     return next(n for n, (a, b) in enumerate(pairs, 1) if a != b)
 
 
-def differences(directory):
-    made = dict(files())
+def differences(directory, made, maker):
     for name, expected in made.items():
         path = directory / name
         if not path.is_file():
             yield f"{path}: missing"
         elif path.read_bytes() != expected:
-            yield f"{path}:{first_difference(expected, path.read_bytes())}: not what tests/logs.py makes"
+            yield f"{path}:{first_difference(expected, path.read_bytes())}: not what {maker} makes"
     for path in sorted(directory.iterdir()):
         if path.name not in made:
-            yield f"{path}: tests/logs.py makes no such file"
+            yield f"{path}: {maker} makes no such file"
+
+
+def write_files(directory, made):
+    directory.mkdir(parents=True, exist_ok=True)
+    for name, content in made.items():
+        (directory / name).write_bytes(content)
+
+
+def check_files(directory, made, maker):
+    """The exit status: 1 where a stored file is not the one made."""
+    found = list(differences(directory, made, maker))
+    print("\n".join(found) if found else f"{len(made)} files in {directory} are what {maker} makes")
+    return 1 if found else 0
 
 
 def main(args):
     if len(args) != 2 or args[0] not in ("--write", "--check"):
         print(__doc__, file=sys.stderr)
         return 2
-    directory = Path(args[1])
     if args[0] == "--write":
-        directory.mkdir(parents=True, exist_ok=True)
-        for name, content in files():
-            (directory / name).write_bytes(content)
+        write_files(Path(args[1]), dict(files()))
         return 0
-    found = list(differences(directory))
-    print("\n".join(found) if found else f"{2 * len(LOGS)} files in {directory} are what tests/logs.py makes")
-    return 1 if found else 0
+    return check_files(Path(args[1]), dict(files()), "tests/logs.py")
 
 
 if __name__ == "__main__":

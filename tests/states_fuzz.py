@@ -18,18 +18,20 @@ import station
 from generator import MAX_COUNT, MAX_REQUEST, block_count
 from station import EMPTY, FRESH, MAX_POOL, POOLS, SEED_SIZE, Pool, State
 
-KINDS = ("event", "request", "update", "write")
+KINDS = ("event", "request", "update", "write", "draw", "shuffle")
 NUMBERS = {
     "event": (0, 11, 12, 13, 21, 22),
     "request": (0, 14, 21, 23, 24),
     "update": (0, 15, 21, 24),
     "write": (0, 15, 21, 23, 24),
+    "draw": (0, 21, 23, 24, 31, 32, 33),
+    "shuffle": (0, 21, 23, 24, 31),
 }
 
 
 @dataclass
 class Case:
-    """A call. buffer is the event's data, or what the lent buffer holds."""
+    """A call. buffer is the event's data, or what the lent buffer holds; numbers is the lent list."""
 
     kind: str
     state: State
@@ -37,6 +39,9 @@ class Case:
     source: int = 0
     pool: int = 0
     buffer: bytes = b""
+    n: int = 1
+    tries: int = 1
+    numbers: tuple = ()
 
     def change(self, **fields):
         self.state = self.state._replace(**fields)
@@ -48,13 +53,25 @@ class Case:
 
     def growth(self):
         """u + b of 24."""
-        blocks = {"event": 0, "request": block_count(len(self.buffer)) + 2, "update": 7, "write": 6}[self.kind]
+        blocks = {
+            "event": 0,
+            "request": block_count(len(self.buffer)) + 2,
+            "update": 7,
+            "write": 6,
+            "draw": 3 * self.tries,
+            "shuffle": 192 * max(len(self.numbers) - 1, 0),
+        }[self.kind]
         return blocks + station.due(self.state, self.clock)
 
-    def expected(self):
+    def arguments(self):
         if self.kind == "event":
-            return station.event(self.state, self.source, self.pool, self.buffer)
-        return getattr(station, self.kind)(self.state, self.clock, self.buffer)
+            return self.source, self.pool, self.buffer
+        if self.kind == "draw":
+            return self.clock, self.n, self.tries
+        return self.clock, self.numbers if self.kind == "shuffle" else self.buffer
+
+    def expected(self):
+        return getattr(station, self.kind)(self.state, *self.arguments())
 
 
 # ---- lines
@@ -69,14 +86,30 @@ def state_hex(s):
     return b"".join(parts).hex()
 
 
+def list_hex(numbers):
+    return "".join(f"{number:04x}" for number in numbers)
+
+
+def arguments_hex(case):
+    if case.kind == "event":
+        return f"{case.source:08x}{case.pool:08x}{case.buffer.hex()}"
+    if case.kind == "draw":
+        return f"{case.clock:08x}{case.n:016x}{case.tries:08x}"
+    return f"{case.clock:08x}{list_hex(case.numbers) if case.kind == 'shuffle' else case.buffer.hex()}"
+
+
+def result_hex(kind, result):
+    if kind == "draw":
+        return f"{result:016x}"
+    return list_hex(result) if kind == "shuffle" else result.hex()
+
+
 def question(case):
-    numbers = (case.source, case.pool) if case.kind == "event" else (case.clock,)
-    arguments = b"".join(n.to_bytes(4, "big") for n in numbers)
-    return f"{KINDS.index(case.kind) + 1:02x}{state_hex(case.state)}{arguments.hex()}{case.buffer.hex()}"
+    return f"{KINDS.index(case.kind) + 1:02x}{state_hex(case.state)}{arguments_hex(case)}"
 
 
-def answer(outcome):
-    return f"{outcome.number} {outcome.emptied} {outcome.buffer.hex()} {state_hex(outcome.next)}"
+def answer(kind, outcome):
+    return f"{outcome.number} {outcome.emptied} {result_hex(kind, outcome.buffer)} {state_hex(outcome.next)}"
 
 
 # ---- well-formed states and arguments that are taken, unless a pool has no room or the counter is spent
@@ -106,8 +139,25 @@ def any_clock(r, state):
     return (state.last_reseed + r.choice(waits)) % 2**32
 
 
+def any_below(r):
+    power = 2 ** r.randrange(33)
+    near = min(max(power + r.choice((-1, 0, 1)), 1), 2**32)
+    return r.choice((near, r.randrange(power) + 1, 129, 2**31 + 1, 2**32))
+
+
+def any_list(r):
+    """A list of distinct numbers; a long one takes time and comes seldom."""
+    size = 256 - r.randrange(2) if r.random() < 0.02 else r.choice((0, 1, 2, 2, 3, r.randrange(20)))
+    return tuple(r.sample(range(2**16), size))
+
+
 def any_case(r, kind):
     state = any_state(r)
+    if kind == "draw":
+        tries = r.choice((1, 1, 2, 63, 64, r.randrange(1, 65)))
+        return Case(kind, state, any_clock(r, state), n=any_below(r), tries=tries)
+    if kind == "shuffle":
+        return Case(kind, state, any_clock(r, state), numbers=any_list(r))
     if kind == "event":
         data = r.randbytes(r.choice((1, 32, r.randrange(1, 33))))
         return Case(kind, state, 0, r.choice((0, 255, r.randrange(256))), r.choice((0, 31, r.randrange(32))), data)
@@ -137,6 +187,25 @@ def bad_request(r, case):
 
 def bad_seed(r, case):
     case.buffer = r.randbytes(r.choice((0, 32, 63, 65, 128)))
+
+
+def bad_below(r, case):
+    case.n = r.choice((0, 2**32 + 1, 2**33, 2**64 - 1, r.randrange(2**32 + 1, 2**64)))
+
+
+def bad_tries(r, case):
+    case.tries = r.choice((0, 65, 256, 2**32 - 1, r.randrange(65, 2**32)))
+
+
+def long_list(r, case):
+    case.numbers = tuple(r.sample(range(2**16), r.choice((257, 258, 512))))
+
+
+def repeat_in_list(r, case):
+    numbers = r.sample(range(2**16), r.choice((2, 3, r.randrange(2, 257), 256, 257)))
+    first, second = r.choice(((0, -1), (0, 1), (-2, -1), r.sample(range(len(numbers)), 2)))
+    numbers[first] = numbers[second]
+    case.numbers = tuple(numbers)
 
 
 def pool_too_long(r, case):
@@ -231,17 +300,26 @@ TWISTS = {
     "request": [as_it_is, bad_request] + MALFORMED + OUTPUT,
     "update": [as_it_is, bad_seed] + MALFORMED + OUTPUT,
     "write": [as_it_is, bad_seed] + MALFORMED + OUTPUT,
+    "draw": [as_it_is, bad_below, bad_tries] + MALFORMED + OUTPUT,
+    "shuffle": [as_it_is, long_list, repeat_in_list] + MALFORMED + OUTPUT,
 }
+
+
+def largest_cases(r):
+    """The calls that need the most of the counter."""
+    yield Case("request", any_state(r), buffer=bytes(MAX_REQUEST))
+    yield Case("draw", any_state(r), n=2**31 + 1, tries=64)
+    yield Case("shuffle", any_state(r), numbers=tuple(r.sample(range(2**16), 256)))
 
 
 def fixed_cases(r):
     for kind in KINDS:
         yield Case(kind, FRESH, buffer=bytes(SEED_SIZE if kind in ("update", "write") else 16))
-    largest = Case("request", any_state(r), buffer=bytes(MAX_REQUEST))
-    yield largest
-    for beyond in (0, 1):
-        largest.change(count=MAX_COUNT - largest.growth() + beyond)
+    for largest in largest_cases(r):
         yield largest
+        for beyond in (0, 1):
+            largest.change(count=MAX_COUNT - largest.growth() + beyond)
+            yield largest
 
 
 def cases(r):
@@ -268,7 +346,7 @@ class Tally:
 
     def note(self, case, outcome):
         self.numbers[case.kind][outcome.number] += 1
-        if case.kind != "event" and outcome.number == 0:
+        if case.kind != "event" and outcome.number in (0, 33):
             self.emptied[outcome.emptied] += 1
         broken = station.clauses(case.state) if outcome.number == 21 else []
         if len(broken) == 1:
@@ -302,8 +380,9 @@ def compare(program, r, seconds, tally):
     for case in cases(r):
         line, outcome = question(case), case.expected()
         found = ask(program, line)
-        if found != answer(outcome):
-            return f"line:     {line}\nexpected: {answer(outcome)}\nfound:    {found}"
+        expected = answer(case.kind, outcome)
+        if found != expected:
+            return f"line:     {line}\nexpected: {expected}\nfound:    {found}"
         tally.note(case, outcome)
         if time.monotonic() > end:
             return None

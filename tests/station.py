@@ -1,7 +1,9 @@
-"""The station of 01 on an explicit state: event, request, seed update and seed write, from any state whatever.
+"""The station of 01 and 02 on an explicit state: event, request, seed update, seed write, draw and shuffle, from any
+state whatever.
 
-A call gives its number (0 or the refusal), the pools emptied, what the buffer or the event's data then hold, and the
-next state. A pool is its running hash, tail and length, so that a state whose earlier bytes nobody knows will do."""
+A call gives its number (0 or the refusal), the pools emptied, what the buffer, the event's data or the list then hold,
+for a draw its value, and the next state. A pool is its running hash, tail and length, so that a state whose earlier
+bytes nobody knows will do."""
 import hashlib
 from collections import namedtuple
 
@@ -15,6 +17,7 @@ Outcome = namedtuple("Outcome", "number emptied buffer next")
 POOLS = 32
 SEED_SIZE = 64
 MAX_POOL = 2**61 - 1
+DRAW_TRIES = 64
 EMPTY = Pool(tuple(INITIAL), bytes(64), 0)
 FRESH = State(bytes(32), 0, (EMPTY,) * POOLS, 0, 0, False)
 
@@ -143,3 +146,64 @@ def update(state, clock, seed):
 def write(state, clock, seed):
     refusal = 15 if len(seed) != SEED_SIZE else output_refusal(state, clock, 6)
     return Outcome(refusal, 0, seed, state) if refusal else random_data(state, clock, SEED_SIZE)
+
+
+# ---- draws and shuffles
+
+
+def low_bits(n):
+    """k, the smallest with n <= 2^k."""
+    return next(k for k in range(33) if n <= 1 << k)
+
+
+def one_try(state, clock, n):
+    """An outcome whose buffer is the number of the low bits."""
+    given = random_data(state, clock, 4)
+    first, second, third, fourth = given.buffer
+    word = first | second << 8 | third << 16 | fourth << 24
+    return given._replace(buffer=word & ((1 << low_bits(n)) - 1))
+
+
+def pick(state, clock, n, tries):
+    """A draw once nothing refuses it."""
+    if tries == 0:
+        return Outcome(33, 0, 0, state)
+    first = one_try(state, clock, n)
+    if first.buffer < n:
+        return first
+    later = pick(first.next, clock, n, tries - 1)
+    return later._replace(emptied=first.emptied + later.emptied)
+
+
+def draw(state, clock, n, tries):
+    bad = 31 if n < 1 or n > 2**32 else 32 if tries < 1 or tries > DRAW_TRIES else 0
+    refusal = bad or output_refusal(state, clock, 3 * tries)
+    return Outcome(refusal, 0, 0, state) if refusal else pick(state, clock, n, tries)
+
+
+def shuffle_refusal(state, clock, numbers, tries):
+    if len(numbers) > 256 or any(number in numbers[:i] for i, number in enumerate(numbers)):
+        return 31
+    if len(numbers) <= 1:
+        return 21 if clauses(state) else 0
+    return output_refusal(state, clock, 3 * tries * (len(numbers) - 1))
+
+
+def exchanged(numbers, a, b):
+    there = {a: numbers[b], b: numbers[a]}
+    return tuple(there.get(place, number) for place, number in enumerate(numbers))
+
+
+def shuffle(state, clock, numbers, tries=DRAW_TRIES):
+    """The tries of a draw are 64, of which nobody has seen 33; fewer serve to see what a shuffle does then."""
+    refusal = shuffle_refusal(state, clock, numbers, tries)
+    if refusal:
+        return Outcome(refusal, 0, numbers, state)
+    left, emptied = numbers, 0
+    for place in reversed(range(1, len(numbers))):
+        picked = pick(state, clock, place + 1, tries)
+        state, emptied = picked.next, emptied + picked.emptied
+        if picked.number == 33:
+            return Outcome(33, emptied, numbers, state)
+        left = exchanged(left, place, picked.buffer)
+    return Outcome(0, emptied, left, state)

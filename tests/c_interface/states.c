@@ -1,52 +1,23 @@
 /* Makes single calls on any states: a call with its state on each line of standard input, and what came back on a line
    of standard output. tests/states_fuzz.py writes the one and reads the other.
 
-   A line is hexadecimal. First a byte for the call: 1 event, 2 request, 3 update, 4 write. Then the state: key,
-   counter, 32 times a pool's chain, tail and length, then last_reseed, reseed_count and a byte for reseeded. Then
-   source and pool for an event, or the clock; the rest is the data or the buffer. Numbers have their most significant
-   byte first. Back come the number, the pools emptied, the data or buffer after the call, and the next state, laid out
-   the same. */
+   A line is hexadecimal. First a byte for the call: 1 event, 2 request, 3 update, 4 write, 5 draw, 6 shuffle. Then the
+   state: key, counter, 32 times a pool's chain, tail and length, then last_reseed, reseed_count and a byte for
+   reseeded. Then source and pool for an event, or the clock; for a draw then n in 8 bytes and the tries in 4; for the
+   others the rest is the data, the buffer, or the list, 2 bytes a number. Numbers have their most significant byte
+   first. Back come the number, the pools emptied, the data, buffer or list after the call or the value drawn, in 8
+   bytes, and the next state, laid out the same. */
 #define _POSIX_C_SOURCE 200809L
 #include "fortuna.h"
+#include "lent.h"
 
-#include <stdio.h>
-#include <stdlib.h>
-#include <string.h>
-
-enum { EVENT = 1, REQUEST, UPDATE, WRITE };
-
-/* Bytes before and after a buffer, by which a call that writes outside it is found out. */
-enum { GUARD = 16, GUARD_BYTE = 0xa5 };
+enum { EVENT = 1, REQUEST, UPDATE, WRITE, DRAW, SHUFFLE };
 
 /* What is left to read of a line. */
 typedef struct {
     const uint8_t *at;
     size_t left;
 } reader;
-
-static _Noreturn void stop(const char *why)
-{
-    printf("states: %s\n", why);
-    exit(1);
-}
-
-static uint8_t digit(char c)
-{
-    if (c >= '0' && c <= '9')
-        return (uint8_t)(c - '0');
-    if (c < 'a' || c > 'f')
-        stop("a line that is not hexadecimal");
-    return (uint8_t)(c - 'a' + 10);
-}
-
-/* The bytes of the line take the place of its digits. */
-static reader decoded(char *line, size_t length)
-{
-    uint8_t *bytes = (uint8_t *)line;
-    for (size_t i = 0; i + 1 < length; i += 2)
-        bytes[i / 2] = (uint8_t)(digit(line[i]) << 4 | digit(line[i + 1]));
-    return (reader){bytes, length / 2};
-}
 
 static void take(reader *r, void *to, size_t length)
 {
@@ -88,14 +59,6 @@ static fortuna_state take_state(reader *r)
     return s;
 }
 
-static void print_bytes(const uint8_t *bytes, size_t length)
-{
-    for (size_t i = 0; i < length; i++) {
-        putchar("0123456789abcdef"[bytes[i] >> 4]);
-        putchar("0123456789abcdef"[bytes[i] & 15]);
-    }
-}
-
 static void print_state(const fortuna_state *s)
 {
     print_bytes(s->generator.key, sizeof s->generator.key);
@@ -107,13 +70,6 @@ static void print_state(const fortuna_state *s)
         printf("%016llx", (unsigned long long)s->pools[i].length);
     }
     printf("%08x%08x%02x\n", s->last_reseed, s->reseed_count, s->reseeded);
-}
-
-static void check_guards(const uint8_t *area, size_t length)
-{
-    for (size_t i = 0; i < GUARD; i++)
-        if (area[i] != GUARD_BYTE || area[GUARD + length + i] != GUARD_BYTE)
-            stop("a call wrote outside its buffer");
 }
 
 static fortuna_answer call(
@@ -133,26 +89,55 @@ static fortuna_answer call(
     }
 }
 
-static void answer(reader r)
+static void answer_buffer(uint8_t kind, fortuna_state *state, reader r)
 {
-    uint8_t kind = (uint8_t)take_number(&r, 1);
-    fortuna_state state = take_state(&r);
     uint32_t arguments[2] = {(uint32_t)take_number(&r, 4), 0};
     if (kind == EVENT)
         arguments[1] = (uint32_t)take_number(&r, 4);
     size_t length = r.left;
-    uint8_t *area = malloc(length + 2 * GUARD);
-    if (!area)
-        stop("no memory");
-    memset(area, GUARD_BYTE, length + 2 * GUARD);
-    take(&r, area + GUARD, length);
-    fortuna_answer a = call(kind, &state, arguments, area + GUARD, length);
-    check_guards(area, length);
+    uint8_t *buffer = lend(length);
+    take(&r, buffer, length);
+    fortuna_answer a = call(kind, state, arguments, buffer, length);
     printf("%u %u ", a.number, a.emptied);
-    print_bytes(area + GUARD, length);
+    print_bytes(buffer, length);
+    give_back(buffer, length);
+}
+
+static void answer_draw(fortuna_state *state, reader r)
+{
+    uint32_t clock = (uint32_t)take_number(&r, 4);
+    uint64_t n = take_number(&r, 8);
+    uint32_t tries = (uint32_t)take_number(&r, 4);
+    fortuna_draw d = fortuna_random_below(state, clock, n, tries);
+    printf("%u %u %016llx", d.number, d.emptied, (unsigned long long)d.value);
+}
+
+static void answer_shuffle(fortuna_state *state, reader r)
+{
+    uint32_t clock = (uint32_t)take_number(&r, 4);
+    size_t length = r.left / 2;
+    uint16_t *list = lend(length * sizeof *list);
+    for (size_t i = 0; i < length; i++)
+        list[i] = (uint16_t)take_number(&r, 2);
+    fortuna_answer a = fortuna_shuffle(state, clock, list, length);
+    printf("%u %u ", a.number, a.emptied);
+    for (size_t i = 0; i < length; i++)
+        printf("%04x", list[i]);
+    give_back(list, length * sizeof *list);
+}
+
+static void answer(reader r)
+{
+    uint8_t kind = (uint8_t)take_number(&r, 1);
+    fortuna_state state = take_state(&r);
+    if (kind == DRAW)
+        answer_draw(&state, r);
+    else if (kind == SHUFFLE)
+        answer_shuffle(&state, r);
+    else
+        answer_buffer(kind, &state, r);
     printf(" ");
     print_state(&state);
-    free(area);
 }
 
 int main(void)
@@ -163,7 +148,8 @@ int main(void)
     while ((length = getline(&line, &room, stdin)) > 0) {
         if (line[length - 1] == '\n')
             length--;
-        answer(decoded(line, (size_t)length));
+        decode(line, (size_t)length, (uint8_t *)line);
+        answer((reader){(const uint8_t *)line, (size_t)length / 2});
         fflush(stdout);
     }
     free(line);

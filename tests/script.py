@@ -1,0 +1,105 @@
+"""Scripts: calls as words on a line, draws and shuffles too, which no bench line makes.
+
+    event SOURCE POOL DATA
+    request CLOCK N
+    update CLOCK SEED
+    write CLOCK
+    draw CLOCK N TRIES
+    shuffle CLOCK NUMBER,NUMBER,..
+
+Numbers are decimal, bytes lower-case hexadecimal; `-` stands for no bytes and for the empty list. An answer is the
+number, for all but events then the pools emptied, and then the bytes of a request or seed call that was not refused, a
+draw's value, or the list that a shuffle left. Lines are bytes without their LF, and made by the names of the calls, as
+in tests/frames.py; tests/c_interface/script.c reads them too."""
+from logbook import SEED_SIZE
+
+# ---- lines of calls
+
+
+def reading(clock):
+    """The clock wraps at 2^32."""
+    return b"%d" % (clock % 2**32)
+
+
+def in_hexadecimal(data):
+    return data.hex().encode() or b"-"
+
+
+def as_list(numbers):
+    return b",".join(b"%d" % number for number in numbers) or b"-"
+
+
+def event(source, pool, data):
+    return b"event %d %d " % (source, pool) + in_hexadecimal(data)
+
+
+def request(clock, n):
+    return b"request " + reading(clock) + b" %d" % n
+
+
+def update(clock, seed):
+    return b"update " + reading(clock) + b" " + in_hexadecimal(seed)
+
+
+def write(clock):
+    return b"write " + reading(clock)
+
+
+def draw(clock, n, tries):
+    return b"draw " + reading(clock) + b" %d %d" % (n, tries)
+
+
+def shuffle(clock, numbers):
+    return b"shuffle " + reading(clock) + b" " + as_list(numbers)
+
+
+# ---- reading and answering them
+
+
+def data_of(word):
+    return b"" if word == b"-" else bytes.fromhex(word.decode())
+
+
+def list_of(word):
+    return () if word == b"-" else tuple(map(int, word.split(b",")))
+
+
+READERS = {
+    "event": (int, int, data_of),
+    "request": (int, lambda n: bytes(int(n))),
+    "update": (int, data_of),
+    "write": (int,),
+    "draw": (int, int, int),
+    "shuffle": (int, list_of),
+}
+
+
+def call_of(line):
+    """The name and the arguments of the call that a line asks for, as the logbook's method takes them."""
+    name, *words = line.split(b" ")
+    name = name.decode()
+    arguments = [read(word) for read, word in zip(READERS[name], words, strict=True)]
+    return name, *arguments, *([bytes(SEED_SIZE)] if name == "write" else [])
+
+
+def result_words(name, number, result):
+    if name == "draw":
+        return [b"%d" % result]
+    if name == "shuffle":
+        return [as_list(result)]
+    return [] if number else [in_hexadecimal(result)]
+
+
+def answer(call, line):
+    """The answer to a line; call takes a call's name and arguments and gives number, pools emptied and result."""
+    name, *arguments = call_of(line)
+    number, emptied, result = call(name, *arguments)
+    words = [b"%d" % number]
+    if name != "event":
+        words += [b"%d" % emptied, *result_words(name, number, result)]
+    return b" ".join(words)
+
+
+def answers(call, script):
+    """The answers to a whole script, a line each."""
+    return b"".join(answer(call, line) + b"\n" for line in script.splitlines())

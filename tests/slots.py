@@ -1,0 +1,338 @@
+#!/usr/bin/env python3
+"""Scripts (tests/script.py) with draws and shuffles among all other calls, and their answers by tests/logbook.py.
+
+    tests/slots.py --long                        prints the long script
+    tests/slots.py --answers < SCRIPT            prints a script's answers
+    tests/slots.py --write DIRECTORY             writes the stored script and its answers
+    tests/slots.py --check DIRECTORY             makes them again and exits 1 where a stored file differs
+    tests/slots.py --against PROGRAM [--seconds S] [--seed N]
+                                                 the long script, then random ones, to tests/c_interface/script.c
+    tests/slots.py --self-test [--seconds S] [--seed N]
+                                                 the same to tests/station.py, with the state left as well
+
+Nothing in the long and the stored script comes from chance. Of a shuffle's draws, with 64 tries, chance gives no 33, so
+that the self-test also runs shuffles with few tries; no program does."""
+import argparse
+import random
+import sys
+import time
+from collections import Counter
+from pathlib import Path
+
+import fuzz
+import generator
+import script
+import station
+from frames import Noise, log_of
+from logbook import MAX_LIST, MAX_TRIES, Logbook, Station
+from logs import check_files, write_files
+from program import Failure, compare, run
+
+POWERS = (1, 2, 3, 7, 8, 16, 31, 32)
+BOUNDS = (0, *sorted({2**k + beside for k in POWERS for beside in (-1, 0, 1)}), 2**64 - 1)
+TRIES = (0, 1, 2, 64, 65)
+SCARCE = ((2**31 + 1, 1), (129, 1), (129, 2), (5, 1))  # n and tries of which 33 comes often
+SIZES = (0, 1, 2, 3, 255, 256, 257)
+MUST_OCCUR = {
+    *(("draw", number) for number in (0, 23, 31, 32, 33)),
+    *(("draw with a reseed", number) for number in (0, 33)),
+    *(("shuffle", number) for number in (0, 23, 31)),
+    ("shuffle with a reseed", 0),
+}
+SCARCE_SHUFFLES = {("shuffle", 33), ("shuffle with a reseed", 33)}  # with few tries
+
+
+def by(book):
+    """The calls of a logbook, by their names."""
+    return lambda name, *arguments: getattr(book, name)(*arguments)
+
+
+def answers_to(lines):
+    return script.answers(by(Logbook()), lines)
+
+
+# ---- lines without chance
+
+
+class Maker(Noise):
+    """Noise as lines of scripts, and as lists."""
+
+    def event(self, pool, length):
+        return script.event(self.below(256), pool, self.take(length))
+
+    def one_of(self, values):
+        return values[self.below(len(values))]
+
+    def numbers(self, size):
+        """A list without a repeat."""
+        found = {}
+        while len(found) < size:
+            found[self.below(2**16)] = None
+        return tuple(found)
+
+    def repeating(self, size):
+        """A list with one repeat, at any two places."""
+        numbers = list(self.numbers(size - 1))
+        numbers.insert(self.below(size), self.one_of(numbers))
+        return tuple(numbers)
+
+
+def bound_draws(clock):
+    return [script.draw(clock, n, tries) for n in BOUNDS for tries in TRIES]
+
+
+def bound_lists(maker, clock):
+    lists = [maker.numbers(size) for size in SIZES] + [maker.repeating(size) for size in (2, 3, MAX_LIST)]
+    return [script.shuffle(clock, numbers) for numbers in lists]
+
+
+def unseeded(maker):
+    """Pool 0 at 63 bytes, then at 64, where the first try makes the reseed."""
+    yield from maker.filling(63)
+    yield from (script.draw(0, n, 1) for n in BOUNDS)
+    yield from (script.draw(0, 10, tries) for tries in TRIES)
+    yield from bound_lists(maker, 0)
+    yield maker.event(0, 1)
+    yield script.draw(0, 10, 64)
+
+
+def scarce(maker, clock):
+    """33 about every other time; a pool reseed is due at every second draw."""
+    for turn in range(48):
+        yield maker.event(0, 32)
+        yield script.draw(clock + 60 * turn, *SCARCE[turn // 2 % len(SCARCE)])
+
+
+def timed(maker):
+    """100 and 101 ms after marks at which the clock wraps, or nearly; a draw or a shuffle makes the reseed."""
+    for mark in (2**31, 2**32 - 101, 500, 2**32 - 100, 1000, 2**32 - 1):
+        yield from [*maker.filling(64), script.draw(mark, 1000, 64), *maker.filling(64)]
+        yield from (script.draw(mark + 100, 1000, 64), script.shuffle(mark + 101, maker.numbers(5)))
+        yield from [*maker.filling(64), script.shuffle(mark + 201, maker.numbers(4)), script.draw(mark + 202, 3, 64)]
+
+
+def any_list(maker):
+    size = maker.one_of((0, 1, 2, 3, maker.below(20)))
+    return maker.repeating(size) if size > 1 and maker.below(8) == 0 else maker.numbers(size)
+
+
+def any_line(maker, clock):
+    """Of 16 lines about 5 are events, 6 draws, 2 shuffles, and 3 the calls that bench lines make too."""
+    kind = maker.below(16)
+    if kind < 5:
+        return maker.event(maker.one_of((0, 0, maker.below(32))), 1 + maker.below(32))
+    if kind < 9:
+        return script.draw(clock, maker.one_of((*BOUNDS, 1 + maker.below(2**32))), maker.one_of((1, 2, 3, 64)))
+    if kind < 11:
+        return script.draw(clock, *maker.one_of(SCARCE))
+    if kind < 13:
+        return script.shuffle(clock, any_list(maker))
+    calls = (script.request(clock, maker.below(40)), script.update(clock, maker.take(64)), script.write(clock))
+    return calls[kind - 13]
+
+
+def mixed(maker, turns):
+    """Any calls in any order, at a clock that wraps and is now and then set back."""
+    clock = 2**32 - 5000
+    for turn in range(turns):
+        clock += -3000 if turn % 400 == 399 else maker.one_of((0, 1, 40, 100, 101, 150))
+        yield any_line(maker, clock)
+
+
+def made(title, turns):
+    maker = Maker(title)
+    lines = [*unseeded(maker), *bound_draws(60), *bound_lists(maker, 100), *scarce(maker, 10**6), *timed(maker)]
+    return log_of([*lines, *mixed(maker, turns)])
+
+
+def long_script():
+    return made("the long script", 4000)
+
+
+def files():
+    """File names and contents."""
+    stored = made("the stored script", 40)
+    return {"slots.script": stored, "slots.answers": answers_to(stored)}
+
+
+# ---- lines at random
+
+
+class Writer(fuzz.Writer):
+    """Writes one script."""
+
+    form = script
+    lengths = ([1, 5, 40, 150], [2, 4, 8, 2])
+
+    def numbers(self):
+        size = self.one_of([*SIZES, self.chance.randrange(4, 40)], [2, 2, 4, 4, 0.2, 0.2, 0.5, 4])
+        return self.chance.sample(range(2**16), size)
+
+    def draw(self):
+        k = self.chance.randrange(33)
+        n = self.one_of([self.chance.choice(BOUNDS), self.chance.randrange(2**k) + 1, 129], [8, 8, 2])
+        tries = self.one_of([*TRIES, self.chance.randrange(3, 64), 2**32 - 1], [0.5, 8, 4, 4, 0.5, 4, 0.2])
+        return script.draw(self.reading(), n, tries)
+
+    def shuffle(self):
+        numbers = self.numbers()
+        if len(numbers) > 1 and self.chance.random() < 0.15:
+            first, second = self.chance.sample(range(len(numbers)), 2)
+            numbers[first] = numbers[second]
+        return script.shuffle(self.reading(), numbers)
+
+    def line(self):
+        makers = [self.right, self.draw, self.shuffle]
+        return self.one_of(makers, [20, 10, 4])()
+
+    def output(self, line):
+        answer = script.answer(by(self.book), line)
+        return answer.split(b" ")[-1] if line.startswith((b"update", b"write")) else b""
+
+
+# ---- what occurred
+
+
+def occurred(lines, answers):
+    """How often each call had each number, and how often with pools emptied."""
+    counts = Counter()
+    for line, answer in zip(lines.splitlines(), answers.splitlines()):
+        name, number, *rest = line.split()[0].decode(), *map(int, answer.split()[:2])
+        counts[name, number] += 1
+        if rest and rest[0]:
+            counts[f"{name} with a reseed", number] += 1
+    return counts
+
+
+def check_occurred(lines, answers, expected=MUST_OCCUR):
+    counts = occurred(lines, answers)
+    print(", ".join(f"{name} {number}: {times}" for (name, number), times in sorted(counts.items())))
+    missing = expected - set(counts)
+    if missing:
+        raise Failure(f"never occurred: {', '.join(f'{name} {number}' for name, number in sorted(missing))}")
+
+
+# ---- against a program
+
+
+def against(program, seconds, seed):
+    lines = long_script()
+    answers = answers_to(lines)
+    check_occurred(lines, answers)
+    compare(lines, answers, run(program, lines))
+    return fuzz.fuzz(program, seconds, seed, Writer, answers_to)
+
+
+# ---- the two independent programs against each other
+
+
+class Carried:
+    """Calls of tests/station.py, each on the state that the last left."""
+
+    def __init__(self, start):
+        self.state = station.FRESH._replace(key=start.key, count=start.count)
+
+    def call(self, name, *arguments):
+        outcome = getattr(station, name)(self.state, *arguments)
+        self.state = outcome.next
+        return outcome[:3]
+
+    def station(self):
+        s = self.state
+        counter = generator.counter_bytes(s.count)
+        return Station(s.key, counter, s.last_reseed, s.reseed_count, s.reseeded, s.pools)
+
+
+def with_tries(call, tries):
+    """The calls, with so many tries for each draw of a shuffle."""
+    return lambda name, *arguments: call(name, *arguments, *([tries] if name == "shuffle" else []))
+
+
+def both(lines, tries, start=generator.FRESH):
+    """The answers of either program, which are the same, as are the states left."""
+    book, carried = Logbook(), Carried(start)
+    book.generator = start
+    answers = script.answers(with_tries(by(book), tries), lines)
+    compare(lines, answers, script.answers(with_tries(carried.call, tries), lines))
+    if book.station() != carried.station():
+        raise Failure(f"after {lines.decode()}the states differ")
+    return answers
+
+
+def last_calls(due):
+    """Calls, and how far the counter must be able to grow for each: u + b of 24."""
+    for tries in (1, 2, MAX_TRIES):
+        yield script.draw(0, 2**31 + 1, tries), due + 3 * tries
+    for size in (2, 3, MAX_LIST):
+        yield script.shuffle(0, range(size)), due + 192 * (size - 1)
+
+
+def counter_end():
+    """No run from the fresh state gets near 24, so these start there."""
+    for due, events in ((0, []), (1, Maker("counter end").filling(64))):
+        for line, need in last_calls(due):
+            for left in (need - 1, need):
+                start = generator.State(b"\x01" * 32, generator.MAX_COUNT - left)
+                last = both(log_of([*events, line]), MAX_TRIES, start).splitlines()[-1]
+                if last.startswith(b"24 ") != (left < need):
+                    raise Failure(f"{line.decode()}, where the counter can grow by {left}: {last.decode()}")
+
+
+def self_test(seconds, seed):
+    counter_end()
+    lines = long_script()
+    check_occurred(lines, both(lines, MAX_TRIES))
+    check_occurred(lines, both(lines, 1), MUST_OCCUR | SCARCE_SHUFFLES)
+    chance = random.Random(seed)
+    end = time.monotonic() + seconds
+    scripts = 0
+    while time.monotonic() < end:
+        both(Writer(chance).log(), chance.choice((1, 2, 5, MAX_TRIES)))
+        scripts += 1
+    print(f"pass  {scripts} random scripts, no difference")
+    return 0
+
+
+# ---- modes
+
+
+def parsed():
+    parser = argparse.ArgumentParser(description=__doc__, formatter_class=argparse.RawDescriptionHelpFormatter)
+    modes = parser.add_mutually_exclusive_group(required=True)
+    modes.add_argument("--long", action="store_true")
+    modes.add_argument("--answers", action="store_true")
+    modes.add_argument("--write", type=Path, metavar="DIRECTORY")
+    modes.add_argument("--check", type=Path, metavar="DIRECTORY")
+    modes.add_argument("--against", metavar="PROGRAM")
+    modes.add_argument("--self-test", action="store_true")
+    parser.add_argument("--seconds", type=float, default=15)
+    parser.add_argument("--seed", type=int, default=random.randrange(2**32))
+    return parser.parse_args()
+
+
+def compared(chosen):
+    print(f"seed {chosen.seed}", flush=True)
+    try:
+        if chosen.against:
+            return against(chosen.against, chosen.seconds, chosen.seed)
+        return self_test(chosen.seconds, chosen.seed)
+    except Failure as why:
+        print(f"FAIL  {why}")
+        return 1
+
+
+def main():
+    chosen = parsed()
+    if chosen.against or chosen.self_test:
+        return compared(chosen)
+    if chosen.check:
+        return check_files(chosen.check, files(), "tests/slots.py")
+    if chosen.write:
+        write_files(chosen.write, files())
+    else:
+        sys.stdout.buffer.write(long_script() if chosen.long else answers_to(sys.stdin.buffer.read()))
+    return 0
+
+
+if __name__ == "__main__":
+    sys.exit(main())
