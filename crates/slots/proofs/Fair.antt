@@ -8,10 +8,10 @@ use native.Mathlib.Nat.{pow-suc, mul-comm, add-comm, mul-one, not-suc-le-zero, e
 use native.Mathlib.Omega.{arith}
 use lib.Arith.{digits-mod}
 use lib.Dec.{eqb}
-use lib.Pow.{pow-add}
+use lib.Pow.{pow-add, pow-pos}
 use borrow.Author.Tests.{eq-eqb, ne-eqb}
 use Rattle.generator.specs.Counter.{value}
-use Rattle.slots.specs.Fair.{bitsFor, tryValue, sumBelow, strings, ways, AllStrings, Fairness}
+use Rattle.slots.specs.Fair.{bitsFor, tryValue, sumBelow, strings, ways, AllStrings, Fairness, EveryPlace}
 use Rattle.slots.proofs.Sums.{sum-one, sum-ext, sum-const, sum-none, sum-swap, sum-blocks}
 use Rattle.slots.proofs.LeastBits.{bits-enough, bits-few}
 
@@ -68,3 +68,6 @@ fairness n _ h v l = ways-of-bits (bitsFor n) v (bits-few n) (lt-of-lt-of-le l (
 
 pub all-strings : AllStrings
 all-strings = strings-numbers 4 (λ _. true) ∙ sum-const (256 ^ 4) 1 ∙ mul-one (256 ^ 4)
+
+pub every-place : EveryPlace
+every-place p v h l = rw (fairness (p + 1) (omega arith) (omega arith) v (omega arith)) (pow-pos (32 - bitsFor (p + 1)))

@@ -50,3 +50,7 @@ LeastBitsLaw = (n : ℕ) → n ≤ 2 ^ 32 → LeastBits n
 -- for every n in range, each value below n comes from 2^(32 - k) of the 4-byte strings
 abbrev pub Fairness : Type 0
 Fairness = (n : ℕ) → 1 ≤ n → n ≤ 2 ^ 32 → (v : ℕ) → v < n → ways n v ≡ 2 ^ (32 - bitsFor n)
+
+-- so each place that a shuffle may draw, 0 to p for p up to 255, comes from some of them
+abbrev pub EveryPlace : Type 0
+EveryPlace = (p v : ℕ) → p < 256 → v ≤ p → 0 < ways (p + 1) v
