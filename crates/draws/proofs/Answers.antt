@@ -1,20 +1,20 @@
 -- From what the tries come to, to the outcome of a draw or a shuffle.
 -- Assumes nothing.
-use mathlib.Core.Path.{_≡_, refl, sym, ap, _∙_}
+use mathlib.Core.Path.{_≡_, sym, ap, _∙_}
 use mathlib.Core.Bool.{Bool, true, false, cond}
 use mathlib.Core.List.{List}
-use Prim.Native.Nat.{ℕ, _-_, _≤_}
-use native.Mathlib.Omega.{arith}
+use Prim.Native.Nat.{ℕ, _≤_}
 use lib.Dec.{eqb}
 use lib.ListN.{length}
 use borrow.Author.Tests.{eqb-true}
 use Rattle.pools.specs.Refusals.{andThen}
 use Rattle.pools.specs.Effects.{Effect, unchanged}
-use Rattle.pools.specs.Draws.{tries, shuffleFrom, shuffled, tryAt}
+use Rattle.pools.specs.Draws.{Drawn, tries, shuffled, tryAt}
 use Rattle.pools.specs.Calls.{Call, draw, shuffle, inputBuffer, callNumber, callEffect, callFound, callValue, outcome, step}
 use Rattle.pools.specs.Promises.{number, GivesValue, GivesBytes}
 use Rattle.pools.specs.declared.Fortuna.{Fortuna}
 use Rattle.pools.specs.declared.Outcome.{Outcome}
+use Rattle.pools.proofs.EachTry.{idle-shuffle}
 use Rattle.pools.proofs.Outcomes.{done, kept}
 use Rattle.draws.specs.Drawing.{DrawsValue, DrawsList}
 use Rattle.draws.specs.declared.draw.Draw.{Draw}
@@ -63,11 +63,6 @@ module _ (s : Fortuna) (clock n times k : ℕ) (d : Bool) (numbered : k ≡ call
 
 -- ---- a shuffle
 
--- one number or none
-shuffled-short : (clock : ℕ) (list : List ℕ) (s : Fortuna) → length list ≤ 1 → (shuffled (tryAt clock) list s .found ≡ true) × (shuffled (tryAt clock) list s .effect ≡ unchanged list s)
-unfolding shuffled shuffleFrom
-shuffled-short clock list s h = let z : length list - 1 ≡ 0 = omega arith in rw z (refl, refl)
-
 module _ (s : Fortuna) (clock : ℕ) (list : List ℕ) (k : ℕ) (d : Bool) (numbered : k ≡ callNumber s (shuffle clock list)) (tested : d ≡ eqb k 0) where
   pub shuffle-done : (r : Outcome) (out : List ℕ) → d ≡ true → DrawsList (shuffled (tryAt clock) list s) r out → GivesBytes (step s (shuffle clock list)) r out
   unfolding callEffect callFound
@@ -96,9 +91,11 @@ module _ (s : Fortuna) (clock : ℕ) (list : List ℕ) (k : ℕ) (d : Bool) (num
   pub shuffle-short : d ≡ true → length list ≤ 1 → Same
   unfolding callEffect callFound
   shuffle-short t h =
-      let (found, idle) = shuffled-short clock list s h in
+      let idle = idle-shuffle (tryAt clock) list s h in
       let zero : k ≡ 0 = eqb-true k 0 (sym tested ∙ t) in
-      same (zero ∙ sym (done-number s (shuffle clock list) k d numbered tested t ∙ rw found)) (sym idle ∙ done s (shuffle clock list) k d numbered tested t)
+      same
+      (zero ∙ sym (done-number s (shuffle clock list) k d numbered tested t ∙ ap (λ (o : Drawn Fortuna). cond (o .found) 0 33) idle))
+      (sym (ap (λ (o : Drawn Fortuna). o .effect) idle) ∙ done s (shuffle clock list) k d numbered tested t)
 
   pub shuffle-kept : d ≡ false → Same
   unfolding inputBuffer
