@@ -17,8 +17,8 @@ use Rattle.pools.specs.State.{due}
 use Rattle.pools.specs.Refusals.{maxTries}
 use Rattle.pools.specs.Effects.{emptiedBy}
 use Rattle.pools.specs.Draws.{Drawn, trySize, leaving, tries, shuffleFrom, shuffled, tryAt}
-use Rattle.pools.specs.Calls.{event, request, update, write, draw, shuffle, callNumber, callEffect}
-use Rattle.pools.specs.Tries.{drawTries, shuffleTries, callTries, tryReading, OneReseedLaw, Passing, EveryTryPasses}
+use Rattle.pools.specs.Calls.{event, request, update, write, draw, shuffle, readingOf, callNumber, callEffect}
+use Rattle.pools.specs.Tries.{drawTries, shuffleTries, callTries, OneReseedLaw, Passing, EveryTryPasses}
 use Rattle.pools.specs.declared.Fortuna.{Fortuna}
 use Rattle.pools.proofs.OneReseed.{quiet-after, first-try, first-shuffle}
 use Rattle.pools.proofs.Passing.{draw-passing, shuffle-passing, passing-fewer, try-passes}
@@ -78,11 +78,11 @@ module _ (clock : ℕ) where
       (λ t. shuffle-passes (length list - 1) list s all (shuffle-passing s clock list e (ltb-false (length list) 2 t)))
 
 pub every-try-passes : EveryTryPasses
-unfolding callTries tryReading
+unfolding callTries readingOf
 every-try-passes s (event source pool content) all e = every-none (Passes 0)
-every-try-passes s (request clock buffer) all e = every-none (Passes 0)
-every-try-passes s (update clock seed) all e = every-none (Passes 0)
-every-try-passes s (write clock seed) all e = every-none (Passes 0)
+every-try-passes s (request clock buffer) all e = every-none (Passes clock)
+every-try-passes s (update clock seed) all e = every-none (Passes clock)
+every-try-passes s (write clock seed) all e = every-none (Passes clock)
 every-try-passes s (draw clock n d) all e = draw-passes clock n d s all (draw-passing s clock n d e)
 every-try-passes s (shuffle clock list) all e = list-passes clock list s all e
 
@@ -165,7 +165,7 @@ module _ (clock : ℕ) where
       split (λ (r : Drawn Fortuna). r .effect .emptied ≡ o .effect .emptied) (o .found) (λ t. refl) (λ t. refl)
 
 pub one-reseed : OneReseedLaw
-unfolding callTries tryReading callEffect
+unfolding callTries readingOf callEffect
 one-reseed s (event source pool content) first others e = absurd (nil≢cons e)
 one-reseed s (request clock buffer) first others e = absurd (nil≢cons e)
 one-reseed s (update clock seed) first others e = absurd (nil≢cons e)

@@ -30,6 +30,15 @@ inputBuffer (write clock seed) = seed
 inputBuffer (draw clock n d) = []
 inputBuffer (shuffle clock list) = list
 
+-- the call's reading of the clock; an event has none
+unfoldable pub readingOf : Call → ℕ
+readingOf (event source pool content) = 0
+readingOf (request clock buffer) = clock
+readingOf (update clock seed) = clock
+readingOf (write clock seed) = clock
+readingOf (draw clock n d) = clock
+readingOf (shuffle clock list) = clock
+
 -- 0, or the number that refuses the call before it does anything
 unfoldable pub callNumber : Fortuna → Call → ℕ
 callNumber s (event source pool content) = eventNumber (malformed s) (poolAt s pool .length) source pool (length content)

@@ -1,5 +1,5 @@
 -- Draws below n and shuffles of a list (02 (i)), over `serve`, which answers a try's request at the call's reading. The station and the
--- reference model share this rule and nothing else.
+-- reference model share this rule; each serves its own way.
 -- Assumes nothing.
 use mathlib.Core.Bool.{Bool, true, false, cond}
 use mathlib.Core.List.{List, [], _++_}

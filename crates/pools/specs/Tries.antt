@@ -13,7 +13,7 @@ use Rattle.pools.specs.State.{counterOf, malformed, due}
 use Rattle.pools.specs.Refusals.{unseeded, spent, maxTries}
 use Rattle.pools.specs.Effects.{Effect, emptiedBy}
 use Rattle.pools.specs.Draws.{trySize, tries, tryAt}
-use Rattle.pools.specs.Calls.{Call, event, request, update, write, draw, shuffle, callNumber, callEffect}
+use Rattle.pools.specs.Calls.{Call, event, request, update, write, draw, shuffle, readingOf, callNumber, callEffect}
 use Rattle.pools.specs.declared.Fortuna.{Fortuna}
 
 -- the states in which the tries of a draw are made, in order
@@ -30,7 +30,7 @@ shuffleTries serve (suc p) list s =
     drawTries serve (suc p + 1) maxTries s
     ++ cond (d .found) (shuffleTries serve p (exchange (suc p) (d .value) list) (d .effect .next)) []
 
--- the states in which a call's tries are made, and their reading
+-- the states in which a call's tries are made
 unfoldable pub callTries : Fortuna → Call → List Fortuna
 callTries s (event source pool content) = []
 callTries s (request clock buffer) = []
@@ -39,27 +39,19 @@ callTries s (write clock seed) = []
 callTries s (draw clock n d) = drawTries (tryAt clock) n d s
 callTries s (shuffle clock list) = shuffleTries (tryAt clock) (length list - 1) list s
 
-unfoldable pub tryReading : Call → ℕ
-tryReading (event source pool content) = 0
-tryReading (request clock buffer) = 0
-tryReading (update clock seed) = 0
-tryReading (write clock seed) = 0
-tryReading (draw clock n d) = clock
-tryReading (shuffle clock list) = clock
-
 -- a call that passes its one check lets every try pass: no 4-byte request is refused midway. As in code, the state has its 32 pools
 abbrev pub EveryTryPasses : Type 0
 EveryTryPasses =
     (s : Fortuna) (c : Call) → length (s .pools) ≡ poolCount → callNumber s c ≡ 0 →
     (t : Fortuna) → List·Memᴰ t (callTries s c) →
-    (out : List ℕ) → length out ≡ trySize → callNumber t (request (tryReading c) out) ≡ 0
+    (out : List ℕ) → length out ≡ trySize → callNumber t (request (readingOf c) out) ≡ 0
 
 -- the first try is made in the state found, and none of the later ones finds a pool reseed due: all pools that the call empties
 -- are emptied by the first
 pub record OneReseed (s : Fortuna) (c : Call) (first : Fortuna) (later : List Fortuna) : Type 0 where
   pub start : first ≡ s
-  pub none : (t : Fortuna) → List·Memᴰ t later → due t (tryReading c) ≡ false
-  pub emptied : callEffect s c .emptied ≡ emptiedBy s (tryReading c)
+  pub none : (t : Fortuna) → List·Memᴰ t later → due t (readingOf c) ≡ false
+  pub emptied : callEffect s c .emptied ≡ emptiedBy s (readingOf c)
 
 abbrev pub OneReseedLaw : Type 0
 OneReseedLaw =

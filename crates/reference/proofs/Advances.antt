@@ -14,11 +14,11 @@ use Rattle.pools.specs.Events.{eventBytes}
 use Rattle.pools.specs.Schedule.{usedPools}
 use Rattle.pools.specs.Effects.{Effect, unchanged}
 use Rattle.pools.specs.Draws.{tries, shuffled}
-use Rattle.pools.specs.Calls.{Call, event, request, update, write, draw, shuffle, effectOf, outcome, run, runFrom, stateFrom}
+use Rattle.pools.specs.Calls.{Call, event, request, update, write, draw, shuffle, readingOf, effectOf, outcome, run, runFrom, stateFrom}
 use Rattle.pools.proofs.EachTry.{idle-shuffle}
 use Rattle.reference.specs.Reference.{Reference, empty, dueAt, appendEvent, referenceCount, referenceRequest, referenceTry, referenceEffect, referenceStep, referenceRun, referenceAfter}
 use Rattle.reference.specs.Agreement.{concreteOutcome}
-use Rattle.reference.specs.Timer.{requests, readingOf, poolReseeds, reseedsAfter}
+use Rattle.reference.specs.Timer.{requests, poolReseeds, reseedsAfter}
 use Rattle.reference.specs.Provenance.{putsInto}
 use Rattle.reference.proofs.Schedule.{used-some}
 use Rattle.reference.proofs.Moves.{Moved, reseed-moves, request-moves, state-due, state-moves, draw-first, shuffle-first}

@@ -14,11 +14,11 @@ use Rattle.pools.specs.declared.Fortuna.{Fortuna}
 use Rattle.pools.specs.Refusals.{andThen, seedSize, maxTries}
 use Rattle.pools.specs.Effects.{Effect, poolReseed}
 use Rattle.pools.specs.Draws.{Drawn, trySize, tries, shuffleFrom, shuffled}
-use Rattle.pools.specs.Calls.{Call, event, request, update, write, draw, shuffle, Outcome, effectOf, outcome, step}
+use Rattle.pools.specs.Calls.{Call, event, request, update, write, draw, shuffle, readingOf, Outcome, effectOf, outcome, step}
 use Rattle.pools.proofs.Acceptance.{not-spent, request-room, write-room, update-room, draw-passed, shuffle-passed}
 use Rattle.reference.specs.Reference.{Reference, dueAt, withState, referenceReseed, referenceReseedIfDue, referenceNumber, referenceEffect, referenceFound, referenceValue, referenceStep}
 use Rattle.reference.specs.Agreement.{concrete, concreteOutcome}
-use Rattle.reference.specs.Timer.{requests, readingOf}
+use Rattle.reference.specs.Timer.{requests}
 use Rattle.reference.specs.Provenance.{atReseed, served, madeFrom, TakenFrom}
 use Rattle.reference.proofs.Invariant.{Sound, sound-state, sound-reseed-if-due}
 use Rattle.reference.proofs.Concrete.{decode-concrete}

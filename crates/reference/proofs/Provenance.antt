@@ -12,9 +12,9 @@ use Rattle.pools.specs.declared.Fortuna.{Fortuna}
 use Rattle.pools.specs.Events.{poolCount, eventBytes}
 use Rattle.pools.specs.State.{poolAt, due}
 use Rattle.pools.specs.Effects.{nextReseed, digests, withGenerator, poolReseed, reseedWithSeed}
-use Rattle.pools.specs.Calls.{Call, event, request, update, write, draw, shuffle, callNumber, step, stateAfter}
+use Rattle.pools.specs.Calls.{Call, event, request, update, write, draw, shuffle, readingOf, callNumber, step, stateAfter}
 use Rattle.reference.specs.Reference.{Accepted, dueAt, scheduledReseed, scheduled, referenceNumber, referenceAfter}
-use Rattle.reference.specs.Timer.{readingOf, reseedsAfter}
+use Rattle.reference.specs.Timer.{reseedsAfter}
 use Rattle.reference.specs.Provenance.{Piece, pieceOf, dueFor, traced, Faithful, atReseed, madeFrom, TakenFrom, reseededBy, EntersKey, EntersAt, EventEnters, NoEvent, OthersNever, Provenance}
 use Rattle.pools.proofs.Acceptance.{event-passed}
 use Rattle.reference.proofs.Agreement.{number-agrees, sound-after, agrees}

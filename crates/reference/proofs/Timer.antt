@@ -16,12 +16,12 @@ use Rattle.pools.specs.State.{poolAt, due}
 use Rattle.pools.specs.Refusals.{andThen}
 use Rattle.pools.specs.Effects.{Effect, unchanged, withPool, withGenerator, addEvent, nextReseed, poolReseed, reseedIfDue, emptiedBy, randomData, reseedWithSeed, updateSeed, writeSeed}
 use Rattle.pools.specs.Draws.{trySize, after, leaving, tries, shuffled, tryAt}
-use Rattle.pools.specs.Calls.{Call, event, request, update, write, draw, shuffle, inputBuffer, callNumber, callEffect, callFound, effectOf, outcome, step, stateAfter}
+use Rattle.pools.specs.Calls.{Call, event, request, update, write, draw, shuffle, readingOf, inputBuffer, callNumber, callEffect, callFound, effectOf, outcome, step, stateAfter}
 use Rattle.pools.proofs.Bounds.{number-small}
 use Rattle.pools.proofs.EachTry.{Kept, Begun, begun-tries, begun-shuffled, idle-shuffle}
 use Rattle.pools.proofs.OneReseed.{quiet-after, first-try, first-shuffled}
 use Rattle.reference.specs.Agreement.{concrete}
-use Rattle.reference.specs.Timer.{reseedsAfter, requests, readingOf, Later, ElapsedLaw, TimerStep}
+use Rattle.reference.specs.Timer.{reseedsAfter, requests, Later, ElapsedLaw, TimerStep}
 use Rattle.reference.specs.Provenance.{dueFor}
 use Rattle.reference.proofs.Schedule.{used-some}
 use Rattle.reference.proofs.Advances.{reseeds-after}

@@ -17,10 +17,10 @@ use Rattle.pools.specs.Events.{poolCount, eventBytes}
 use Rattle.pools.specs.Schedule.{used, usedPools}
 use Rattle.pools.specs.State.{poolAt, due}
 use Rattle.pools.specs.Effects.{Effect, unchanged, nextReseed, digests}
-use Rattle.pools.specs.Calls.{Call, event, inputBuffer, Outcome, effectOf, outcome, callNumber, step, stateFrom, stateAfter}
+use Rattle.pools.specs.Calls.{Call, event, readingOf, inputBuffer, Outcome, effectOf, outcome, callNumber, step, stateFrom, stateAfter}
 use Rattle.reference.specs.Reference.{Accepted, Reference, empty, select, pending, consumedAt, contents, poolContents, appendEvent, referenceReseed, referenceNumber, referenceEffect, referenceStep, referenceAfter}
 use Rattle.reference.specs.Agreement.{concrete, concreteOutcome}
-use Rattle.reference.specs.Timer.{requests, readingOf}
+use Rattle.reference.specs.Timer.{requests}
 use Rattle.reference.specs.Provenance.{Piece, PoolUse, erased, Traced, tracedFresh, dueFor, putsInto, useOf, nextUses, tracedReseed, tracedAccepted, tracedStep, tracedFrom, traced, pieceOf, scheduledUse, scheduledUses}
 use Rattle.reference.proofs.Schedule.{joined-used}
 use Rattle.reference.proofs.Bookings.{select-append, new-pending, new-consumed-later, pending-consumed, pending-gone, pending-stays}

@@ -19,9 +19,9 @@ use Rattle.pools.specs.State.{fresh, poolAt, due}
 use Rattle.pools.specs.Refusals.{seedSize}
 use Rattle.pools.specs.Effects.{Effect, unchanged, nextReseed, digests, poolReseed, reseedWithSeed}
 use Rattle.pools.specs.Draws.{Drawn, trySize, tries, shuffled}
-use Rattle.pools.specs.Calls.{Call, event, request, update, write, draw, shuffle, callNumber, Outcome, step, stateAfter}
+use Rattle.pools.specs.Calls.{Call, event, request, update, write, draw, shuffle, readingOf, callNumber, Outcome, step, stateAfter}
 use Rattle.reference.specs.Reference.{Accepted, select, consumedAt, referenceAfter}
-use Rattle.reference.specs.Timer.{requests, readingOf, reseedsAfter}
+use Rattle.reference.specs.Timer.{requests, reseedsAfter}
 
 -- the bytes that the call at a place put into its pool
 pub record Piece : Type 0 where

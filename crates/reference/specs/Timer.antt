@@ -10,7 +10,7 @@ use lib.ListN.{length}
 use Rattle.pools.specs.declared.Fortuna.{Fortuna}
 use Rattle.pools.specs.Schedule.{elapsed}
 use Rattle.pools.specs.State.{poolAt}
-use Rattle.pools.specs.Calls.{Call, event, request, update, write, draw, shuffle, Outcome, step, run, stateAfter}
+use Rattle.pools.specs.Calls.{Call, event, request, update, write, draw, shuffle, readingOf, Outcome, step, run, stateAfter}
 
 -- the pool reseeds made in a run: the calls that emptied a pool
 unfoldable pub poolReseeds : List (Outcome Fortuna) → ℕ
@@ -20,7 +20,7 @@ poolReseeds (o ∷ os) = cond (ltb 0 (o .effect .emptied)) 1 0 + poolReseeds os
 unfoldable pub reseedsAfter : List Call → ℕ
 reseedsAfter calls = poolReseeds (run calls)
 
--- whether a call makes a request, or several; and its reading
+-- whether a call makes a request, or several
 unfoldable pub requests : Call → Bool
 requests (event source pool content) = false
 requests (request clock buffer) = true
@@ -28,14 +28,6 @@ requests (update clock seed) = true
 requests (write clock seed) = true
 requests (draw clock n d) = ltb 0 d
 requests (shuffle clock list) = ltb 1 (length list)
-
-unfoldable pub readingOf : Call → ℕ
-readingOf (event source pool content) = 0
-readingOf (request clock buffer) = clock
-readingOf (update clock seed) = clock
-readingOf (write clock seed) = clock
-readingOf (draw clock n d) = clock
-readingOf (shuffle clock list) = clock
 
 -- the clock shows `reading` e milliseconds after it showed `mark`
 abbrev pub Later : ℕ → ℕ → ℕ → Type 0
