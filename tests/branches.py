@@ -1,0 +1,125 @@
+"""Says whether functions of a library or program for x86-64 decide anything by data.
+
+Usage: branches.py FILE [FUNCTION...]
+       branches.py --self-test
+
+Refused: a jump or a conditional move that data decides, a jump or call to an address that is worked out, a block move whose
+length is data, a repeated instruction, and a call of a function that is not looked at. Data is all that is not made of
+constants alone (constants.py). Reads at a place that data picks, such as look-ups in a table, are counted and not refused. How
+long an instruction takes is not looked at.
+
+Without a FUNCTION, those that work on the key's bits are looked at, and no other function may have the number by which the
+field's doubling reduces: a second copy of the cipher, built into its caller, would not be looked at."""
+import argparse
+import re
+import subprocess
+import sys
+import tempfile
+from pathlib import Path
+
+from constants import SHIFTS, NotFollowed, accounts, condition
+from disassembly import functions
+
+CASES = Path(__file__).with_suffix(".s")
+KEYED = ["cipher::block::encrypt_block", "cipher::key::expand_key", "hash::block::compress"]
+POLYNOMIAL = "0x1b"
+BLOCK_MOVES = {"memcpy", "memmove", "memset"}
+
+
+def fault(account, step, leaves, named):
+    """Why an instruction is refused; None where it is not."""
+    chosen = condition(step.name)
+    if step.name in ("jcxz", "jecxz", "jrcxz", "loop", "loope", "loopne") or "rep" in "".join(step.prefixes):
+        return "goes on as a register says"
+    if chosen is not None and not step.name.startswith("set") and not account.decides(chosen):
+        return "is decided by data"
+    if not leaves:
+        return None
+    if step.symbol is None:
+        return "goes to an address that is worked out"
+    if step.symbol in BLOCK_MOVES:
+        return None if account.has("rdx") else "moves a block whose length is data"
+    return None if step.symbol in named else f"goes to {step.symbol}, which is not looked at"
+
+
+def looks_up(account, step):
+    """Whether an instruction reads or writes at a place that data picks."""
+    picked = re.findall(r"(\w+)\*[1248]", " ".join(step.operands))
+    return step.name not in ("lea", "nop") and not all(account.has(register) for register in picked)
+
+
+def examine(name, body, named):
+    """What is refused in a function, and a line on what it has."""
+    places, faults, jumps, reads = {step.address for step in body}, [], 0, 0
+    before = accounts(body)
+    for k, account in sorted(before.items()):
+        step = body[k]
+        jumps += step.name.startswith("j") and step.name != "jmp"
+        reads += looks_up(account, step)
+        leaves = step.name == "call" or step.name.startswith("j") and step.target not in places
+        if why := fault(account, step, leaves, named):
+            faults.append(f"{name}+{step.address - body[0].address:#x}: {step.text}: {why}")
+    return faults, f"{name}: {len(before)} instructions, conditional jumps {jumps}, look-ups by data {reads}, refused {len(faults)}"
+
+
+def check(found, name, named):
+    """What is refused in a function, and a line on it."""
+    if name not in found:
+        return [f"{name}: no function of this name is in the file"], f"{name}: not found"
+    try:
+        return examine(name, found[name], named)
+    except NotFollowed as reason:
+        return [f"{name}: {reason}"], f"{name}: not followed"
+
+
+def copies(found, named):
+    """Where a function that is not named has the polynomial as an operand, other than to shift by."""
+    return [
+        f"{name}: {step.text}: the doubling, in a function that is not looked at"
+        for name, body in found.items()
+        for step in body
+        if name not in named and POLYNOMIAL in step.operands and step.name not in SHIFTS
+    ]
+
+
+def self_test():
+    """Each function of the cases has before it what is to be said of it: 'passes', or what is refused and why."""
+    expected = re.findall(r'^# (.+)\n"(.+)":$', CASES.read_text(), re.MULTILINE)
+    with tempfile.NamedTemporaryFile(suffix=".o") as made:
+        subprocess.run(["as", "-o", made.name, str(CASES)], check=True)
+        found = functions(made.name)
+    assert len(expected) == len(found), "a case says nothing of itself"
+    for said, name in expected:
+        faults, _ = check(found, name, [name])
+        told = "; ".join(each.split(": ", 1)[1] for each in faults) or "passes"
+        assert told == said, f"{name}: {told}, in place of {said}"
+    assert [each.split(":")[0] for each in copies(found, [])] == ["arithmetic on the top bit", "a choice by the top bit"]
+    assert copies(found, found) == []
+    print(f"branches: {len(expected)} functions told apart")
+
+
+def main():
+    parser = argparse.ArgumentParser(usage="branches.py FILE [FUNCTION...] | --self-test")
+    parser.add_argument("file", nargs="?")
+    parser.add_argument("functions", nargs="*")
+    parser.add_argument("--self-test", action="store_true")
+    given = parser.parse_args()
+    if given.self_test:
+        return self_test()
+    if given.file is None:
+        parser.error("no file is named")
+    try:
+        found = functions(given.file)
+    except subprocess.CalledProcessError as failed:
+        sys.exit(failed.stderr.strip())
+    named, faults = (given.functions, []) if given.functions else (KEYED, copies(found, KEYED))
+    for name in named:
+        refused, line = check(found, name, named)
+        faults += refused
+        print(line)
+    if faults:
+        sys.exit("\n".join(faults))
+
+
+if __name__ == "__main__":
+    main()
