@@ -91,7 +91,7 @@ def self_test():
     assert len(expected) == len(found), "a case says nothing of itself"
     for said, name in expected:
         faults, _ = check(found, name, [name])
-        told = "; ".join(each.split(": ", 1)[1] for each in faults) or "passes"
+        told = "; ".join(re.sub(r"^.*?: (?:(\S+) .*?(: ))?", r"\1\2", each) for each in faults) or "passes"
         assert told == said, f"{name}: {told}, in place of {said}"
     assert [each.split(":")[0] for each in copies(found, [])] == ["arithmetic on the top bit", "a choice by the top bit"]
     assert copies(found, found) == []

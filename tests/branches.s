@@ -1,4 +1,5 @@
-# Cases for branches.py: before each function stands what has to be said of it.
+# Cases for branches.py. Before each function stands what has to be said of it: that it passes, or which instruction is refused
+# and why.
 .intel_syntax noprefix
 
 # passes
@@ -10,7 +11,22 @@
     ret
 
 # passes
-"a loop by a counter that is kept in the frame":
+"a bit made a number":
+    test dil, dil
+    sets al
+    ret
+
+# passes
+"a counter from nothing, beside vectors":
+    xor ecx, ecx
+1:  pxor xmm0, xmm1
+    add ecx, 1
+    cmp ecx, 0x10
+    jb 1b
+    ret
+
+# passes
+"a counter kept in the frame":
     sub rsp, 0x18
     mov eax, 0x10
     mov QWORD PTR [rsp+8], rax
@@ -24,7 +40,7 @@
     ret
 
 # passes
-"a counter goes down after data set the flags":
+"a counter that goes down after data set the flags":
     mov ecx, 4
 1:  xor al, BYTE PTR [rdi+rcx]
     dec ecx
@@ -32,12 +48,32 @@
     ret
 
 # passes
-"a bit is made a number":
-    test dil, dil
-    sets al
+"a constant below data on the stack":
+    mov eax, 3
+    push rax
+    push rdi
+    cmp QWORD PTR [rsp+8], 3
+    je 1f
+1:  pop rdi
+    pop rax
     ret
 
-# js <a branch on the top bit+0x7>: is decided by data
+# passes
+"a constant where the stack was":
+    sub rsp, 8
+    mov QWORD PTR [rsp], 3
+    add rsp, 8
+    cmp QWORD PTR [rsp-8], 3
+    je 1f
+1:  ret
+
+# passes
+"a block move of fixed length":
+    mov edx, 0xf0
+    call memcpy
+    ret
+
+# js: is decided by data
 "a branch on the top bit":
     test dil, dil
     js 1f
@@ -45,7 +81,7 @@
 1:  mov eax, edi
     ret
 
-# cmovns eax,ecx: is decided by data
+# cmovns: is decided by data
 "a choice by the top bit":
     lea eax, [rdi+rdi]
     mov ecx, eax
@@ -54,7 +90,16 @@
     cmovns eax, ecx
     ret
 
-# je <data kept in the frame+0x16>: is decided by data
+# je: is decided by data
+"a number made of a bit":
+    mov eax, 0
+    test dil, dil
+    sets al
+    cmp eax, 0
+    je 1f
+1:  ret
+
+# je: is decided by data
 "data kept in the frame":
     mov QWORD PTR [rsp-8], 3
     mov BYTE PTR [rsp-6], dil
@@ -62,7 +107,16 @@
     je 1f
 1:  ret
 
-# je <the frame written at a place that data picks+0x15>: is decided by data
+# je: is decided by data
+"data from the stack":
+    mov eax, 3
+    push rdi
+    pop rax
+    cmp eax, 3
+    je 1f
+1:  ret
+
+# je: is decided by data
 "the frame written at a place that data picks":
     mov QWORD PTR [rsp-8], 3
     mov BYTE PTR [rsp+rdi-8], sil
@@ -70,16 +124,36 @@
     je 1f
 1:  ret
 
-# je <data in a part of a register+0xd>: is decided by data
-"data in a part of a register":
-    mov eax, 3
-    mov al, dil
-    cmp eax, 3
+# je: is decided by data
+"the frame written at a place that is not named":
+    mov QWORD PTR [rsp-8], 3
+    lea rdi, [rsp-8]
+    maskmovdqu xmm0, xmm1
+    cmp QWORD PTR [rsp-8], 3
     je 1f
 1:  ret
 
-# jne <a counter on one way only+0x5>: is decided by data
-"a counter on one way only":
+# je: is decided by data
+"the frame written by a block move":
+    mov QWORD PTR [rsp+8], 3
+    lea rdi, [rsp+8]
+    mov edx, 8
+    call memcpy
+    cmp QWORD PTR [rsp+8], 3
+    je 1f
+1:  ret
+
+# jne: is decided by data
+"the frame written on the way back":
+    mov DWORD PTR [rsp-8], 3
+1:  mov ecx, DWORD PTR [rsp-8]
+    mov DWORD PTR [rsp-8], edi
+    dec ecx
+    jne 1b
+    ret
+
+# jne: is decided by data
+"a counter written on the way back":
     mov eax, 3
 1:  mov ecx, eax
     mov eax, edi
@@ -87,7 +161,80 @@
     jne 1b
     ret
 
-# jb <the carry that a counter leaves+0xd>: is decided by data
+# je: is decided by data
+"data in a part of a register":
+    mov eax, 3
+    mov al, dil
+    cmp eax, 3
+    je 1f
+1:  ret
+
+# je: is decided by data
+"a constant in a part of a register":
+    mov eax, edi
+    mov al, 3
+    cmp eax, 3
+    je 1f
+1:  ret
+
+# je: is decided by data
+"data in a sum":
+    mov eax, 3
+    add eax, edi
+    cmp eax, 3
+    je 1f
+1:  ret
+
+# je: is decided by data
+"data in an address":
+    mov eax, 3
+    lea eax, [rdi+1]
+    cmp eax, 3
+    je 1f
+1:  ret
+
+# je: is decided by data
+"data from a vector":
+    mov eax, 3
+    movd eax, xmm0
+    cmp eax, 3
+    je 1f
+1:  ret
+
+# je: is decided by data
+"vectors compared":
+    mov eax, 3
+    cmp eax, 3
+    ucomiss xmm0, xmm1
+    je 1f
+1:  ret
+
+# je: is decided by data
+"the upper half of a product":
+    mov edx, 3
+    imul edi
+    cmp edx, 3
+    je 1f
+1:  ret
+
+# je: is decided by data
+"the upper half of a product without sign":
+    mov edx, 3
+    mul edi
+    cmp edx, 3
+    je 1f
+1:  ret
+
+# je: is decided by data
+"what a call gives":
+    mov eax, 3
+    mov edx, 8
+    call memcpy
+    cmp eax, 3
+    je 1f
+1:  ret
+
+# jb: is decided by data
 "the carry that a counter leaves":
     mov ecx, 3
     cmp dil, 9
@@ -95,22 +242,39 @@
     jb 1f
 1:  ret
 
-# jmp QWORD PTR [rdi*8+0x0]: goes to an address that is worked out
+# jb: is decided by data
+"the carry of a bit that is turned out":
+    mov ecx, 3
+    cmp ecx, 3
+    rol edi, 1
+    jb 1f
+1:  ret
+
+# je: is decided by data
+"flags that a shift by nothing leaves":
+    mov eax, 3
+    mov ecx, 0
+    cmp edi, 3
+    shl eax, cl
+    je 1f
+1:  ret
+
+# jmp: goes to an address that is worked out
 "a jump by a table":
     jmp QWORD PTR [rdi*8]
 
-# call <elsewhere>: goes to elsewhere, which is not looked at
+# call: goes to elsewhere, which is not looked at
 "a call of what is not looked at":
     call elsewhere
     ret
 
-# call <memcpy>: moves a block whose length is data
+# call: moves a block whose length is data
 "a block move as long as data says":
     mov edx, edi
     call memcpy
     ret
 
-# rep stos BYTE PTR es:[rdi],al: goes on as a register says
+# rep: goes on as a register says
 "a repeated instruction":
     mov ecx, esi
     rep stosb
@@ -120,3 +284,16 @@
 "a frame of unknown depth":
     and rsp, -32
     ret
+
+# the stack pointer is set
+"a frame left":
+    leave
+    ret
+
+# the stack has two depths at one place
+"a frame of two depths":
+    mov eax, 3
+    cmp eax, 3
+    je 1f
+    push rdi
+1:  ret
