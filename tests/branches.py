@@ -48,28 +48,28 @@ def looks_up(account, step):
     return step.name not in ("lea", "nop") and not all(account.has(register) for register in picked)
 
 
-def examine(name, body, named):
-    """What is refused in a function, and a line on what it has."""
-    places, faults, jumps, reads = {step.address for step in body}, [], 0, 0
-    before = accounts(body)
-    for k, account in sorted(before.items()):
-        step = body[k]
-        jumps += step.name.startswith("j") and step.name != "jmp"
-        reads += looks_up(account, step)
-        leaves = step.name == "call" or step.name.startswith("j") and step.target not in places
-        if why := fault(account, step, leaves, named):
-            faults.append(f"{name}+{step.address - body[0].address:#x}: {step.text}: {why}")
-    return faults, f"{name}: {len(before)} instructions, conditional jumps {jumps}, look-ups by data {reads}, refused {len(faults)}"
-
-
-def check(found, name, named):
-    """What is refused in a function, and a line on it."""
-    if name not in found:
-        return [f"{name}: no function of this name is in the file"], f"{name}: not found"
+def refusals(body, named):
+    """What is refused in a function, as pairs of the instruction and why, and the accounts that were kept."""
+    places = {step.address for step in body}
     try:
-        return examine(name, found[name], named)
+        before = accounts(body)
     except NotFollowed as reason:
-        return [f"{name}: {reason}"], f"{name}: not followed"
+        return [(reason.step, str(reason))], {}
+    refused = []
+    for k, account in sorted(before.items()):
+        leaves = body[k].name == "call" or body[k].name.startswith("j") and body[k].target not in places
+        if why := fault(account, body[k], leaves, named):
+            refused.append((body[k], why))
+    return refused, before
+
+
+def examine(name, body, named):
+    """A line on what a function has, and a line for each instruction that is refused."""
+    refused, before = refusals(body, named)
+    jumps = sum(body[k].name.startswith("j") and body[k].name != "jmp" for k in before)
+    reads = sum(looks_up(before[k], body[k]) for k in before)
+    print(f"{name}: {len(before)} instructions, conditional jumps {jumps}, look-ups by data {reads}, refused {len(refused)}")
+    return [f"{name}+{step.address - body[0].address:#x}: {step.text}: {why}" for step, why in refused]
 
 
 def copies(found, named):
@@ -90,8 +90,8 @@ def self_test():
         found = functions(made.name)
     assert len(expected) == len(found), "a case says nothing of itself"
     for said, name in expected:
-        faults, _ = check(found, name, [name])
-        told = "; ".join(re.sub(r"^.*?: (?:(\S+) .*?(: ))?", r"\1\2", each) for each in faults) or "passes"
+        refused, _ = refusals(found[name], [name])
+        told = "; ".join(f"{step.text.split()[0]}: {why}" for step, why in refused) or "passes"
         assert told == said, f"{name}: {told}, in place of {said}"
     assert [each.split(":")[0] for each in copies(found, [])] == ["arithmetic on the top bit", "a choice by the top bit"]
     assert copies(found, found) == []
@@ -112,11 +112,12 @@ def main():
         found = functions(given.file)
     except subprocess.CalledProcessError as failed:
         sys.exit(failed.stderr.strip())
-    named, faults = (given.functions, []) if given.functions else (KEYED, copies(found, KEYED))
+    named = given.functions or KEYED
+    if missing := [name for name in named if name not in found]:
+        sys.exit(f"{given.file}: no function {', '.join(missing)}")
+    faults = [] if given.functions else copies(found, KEYED)
     for name in named:
-        refused, line = check(found, name, named)
-        faults += refused
-        print(line)
+        faults += examine(name, found[name], named)
     if faults:
         sys.exit("\n".join(faults))
 

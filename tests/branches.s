@@ -2,6 +2,13 @@
 # and why.
 .intel_syntax noprefix
 
+# A jump that a comparison with 3 decides.
+.macro decide operand
+    cmp \operand, 3
+    je 1f
+1:  ret
+.endm
+
 # passes
 "arithmetic on the top bit":
     lea eax, [rdi+rdi]
@@ -63,9 +70,14 @@
     sub rsp, 8
     mov QWORD PTR [rsp], 3
     add rsp, 8
-    cmp QWORD PTR [rsp-8], 3
-    je 1f
-1:  ret
+    decide "QWORD PTR [rsp-8]"
+
+# passes
+"data on a way that is not taken":
+    mov ecx, 3
+    jmp 2f
+    mov ecx, edi
+2:  decide ecx
 
 # passes
 "a block move of fixed length":
@@ -95,43 +107,33 @@
     mov eax, 0
     test dil, dil
     sets al
-    cmp eax, 0
-    je 1f
-1:  ret
+    decide eax
 
 # je: is decided by data
 "data kept in the frame":
     mov QWORD PTR [rsp-8], 3
     mov BYTE PTR [rsp-6], dil
-    cmp QWORD PTR [rsp-8], 3
-    je 1f
-1:  ret
+    decide "QWORD PTR [rsp-8]"
 
 # je: is decided by data
 "data from the stack":
     mov eax, 3
     push rdi
     pop rax
-    cmp eax, 3
-    je 1f
-1:  ret
+    decide eax
 
 # je: is decided by data
 "the frame written at a place that data picks":
     mov QWORD PTR [rsp-8], 3
     mov BYTE PTR [rsp+rdi-8], sil
-    cmp BYTE PTR [rsp-8], 3
-    je 1f
-1:  ret
+    decide "BYTE PTR [rsp-8]"
 
 # je: is decided by data
 "the frame written at a place that is not named":
     mov QWORD PTR [rsp-8], 3
     lea rdi, [rsp-8]
     maskmovdqu xmm0, xmm1
-    cmp QWORD PTR [rsp-8], 3
-    je 1f
-1:  ret
+    decide "QWORD PTR [rsp-8]"
 
 # je: is decided by data
 "the frame written by a block move":
@@ -139,9 +141,7 @@
     lea rdi, [rsp+8]
     mov edx, 8
     call memcpy
-    cmp QWORD PTR [rsp+8], 3
-    je 1f
-1:  ret
+    decide "QWORD PTR [rsp+8]"
 
 # jne: is decided by data
 "the frame written on the way back":
@@ -165,41 +165,31 @@
 "data in a part of a register":
     mov eax, 3
     mov al, dil
-    cmp eax, 3
-    je 1f
-1:  ret
+    decide eax
 
 # je: is decided by data
 "a constant in a part of a register":
     mov eax, edi
     mov al, 3
-    cmp eax, 3
-    je 1f
-1:  ret
+    decide eax
 
 # je: is decided by data
 "data in a sum":
     mov eax, 3
     add eax, edi
-    cmp eax, 3
-    je 1f
-1:  ret
+    decide eax
 
 # je: is decided by data
 "data in an address":
     mov eax, 3
     lea eax, [rdi+1]
-    cmp eax, 3
-    je 1f
-1:  ret
+    decide eax
 
 # je: is decided by data
 "data from a vector":
     mov eax, 3
     movd eax, xmm0
-    cmp eax, 3
-    je 1f
-1:  ret
+    decide eax
 
 # je: is decided by data
 "vectors compared":
@@ -213,26 +203,20 @@
 "the upper half of a product":
     mov edx, 3
     imul edi
-    cmp edx, 3
-    je 1f
-1:  ret
+    decide edx
 
 # je: is decided by data
 "the upper half of a product without sign":
     mov edx, 3
     mul edi
-    cmp edx, 3
-    je 1f
-1:  ret
+    decide edx
 
 # je: is decided by data
 "what a call gives":
     mov eax, 3
     mov edx, 8
     call memcpy
-    cmp eax, 3
-    je 1f
-1:  ret
+    decide eax
 
 # jb: is decided by data
 "the carry that a counter leaves":
@@ -280,17 +264,17 @@
     rep stosb
     ret
 
-# the stack pointer is set
+# and: the stack pointer is set
 "a frame of unknown depth":
     and rsp, -32
     ret
 
-# the stack pointer is set
+# leave: the stack pointer is set
 "a frame left":
     leave
     ret
 
-# the stack has two depths at one place
+# push: the stack has two depths at one place
 "a frame of two depths":
     mov eax, 3
     cmp eax, 3

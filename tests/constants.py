@@ -20,7 +20,7 @@ ODD_VECTORS = ("pcmpestr", "pcmpistr", "maskmov")  # these change what they do n
 
 
 class NotFollowed(Exception):
-    """The account can't be kept through an instruction."""
+    """Why the account can't be kept; step is the instruction."""
 
 
 def registers():
@@ -172,6 +172,13 @@ def book(account, step):
         unknown(account, step)
 
 
+def ways(body, numbered, k):
+    """The places of the instructions that may come after the one at place k."""
+    step = body[k]
+    jumped = [numbered[step.target]] if step.name.startswith("j") and step.target in numbered else []
+    return jumped if step.name in ENDS or k + 1 == len(body) else jumped + [k + 1]
+
+
 def accounts(body):
     """The account before each instruction that can be reached, whichever way, by the instruction's place."""
     numbered = {step.address: k for k, step in enumerate(body)}
@@ -179,12 +186,12 @@ def accounts(body):
     while waiting:
         k = waiting.pop()
         after = before[k].copy()
-        book(after, body[k])
-        ways = [numbered[body[k].target]] if body[k].name.startswith("j") and body[k].target in numbered else []
-        ways += [k + 1] if body[k].name not in ENDS and k + 1 < len(body) else []
-        for n in ways:
-            met = before[n].meet(after) if n in before else after.copy()
-            if before.get(n) != met:
-                before[n] = met
-                waiting.append(n)
+        try:
+            book(after, body[k])
+            met = {n: before[n].meet(after) if n in before else after for n in ways(body, numbered, k)}
+        except NotFollowed as reason:
+            reason.step = body[k]
+            raise
+        waiting += [n for n in met if before.get(n) != met[n]]
+        before |= met
     return before
