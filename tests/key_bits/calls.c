@@ -1,0 +1,61 @@
+/* Every call that works on a key, with the key's bytes marked as unknown to memcheck: it reports each jump, and each
+   address, that they decide. */
+#include <fortuna.h>
+#include <stdio.h>
+#include <stdlib.h>
+#include <valgrind/memcheck.h>
+
+enum { OUTPUT = 40, SEED = 64, CLOCK = 1000, SLOTS = 900 };
+
+static uint8_t output[OUTPUT];
+static uint8_t seed[SEED];
+
+static void done(const char *call, uint32_t number)
+{
+    if (number == FORTUNA_DONE)
+        return;
+    fprintf(stderr, "key_bits: %s: refused by %u\n", call, number);
+    exit(1);
+}
+
+/* A seeded station whose pool 0 has 64 bytes and more, so that a reseed is due. */
+static fortuna_state station(void)
+{
+    fortuna_state s = fortuna_new();
+    for (size_t i = 0; i < SEED; i++)
+        seed[i] = (uint8_t)i;
+    done("update", fortuna_update(&s, 0, seed, SEED).number);
+    for (uint32_t i = 0; i < 64; i++)
+        done("event", fortuna_event(&s, i, i % 32, seed, 32));
+    VALGRIND_MAKE_MEM_UNDEFINED(s.generator.key, sizeof s.generator.key);
+    return s;
+}
+
+static void station_calls(void)
+{
+    fortuna_state s = station();
+    uint16_t list[] = {3, 1, 4, 15, 9};
+    done("event under an unknown key", fortuna_event(&s, 1, 1, seed, 32));
+    done("request with a reseed", fortuna_request(&s, CLOCK, output, OUTPUT).number);
+    done("request", fortuna_request(&s, CLOCK, output, OUTPUT).number);
+    done("write", fortuna_write(&s, CLOCK, seed, SEED).number);
+    done("update by unknown bytes", fortuna_update(&s, CLOCK, seed, SEED).number);
+    done("draw", fortuna_random_below(&s, CLOCK, SLOTS, 64).number);
+    done("shuffle", fortuna_shuffle(&s, CLOCK, list, sizeof list / sizeof list[0]).number);
+}
+
+static void generator_calls(void)
+{
+    fortuna_generator g = station().generator;
+    done("generator's blocks", fortuna_generator_blocks_at(&g, output, OUTPUT));
+    done("generator's reseed", fortuna_generator_reseed_at(&g, output, OUTPUT));
+    done("generator's request", fortuna_generator_request_at(&g, output, OUTPUT));
+    fortuna_aes256_block(fortuna_aes256_expand(g.key), output);
+}
+
+int main(void)
+{
+    station_calls();
+    generator_calls();
+    return 0;
+}
