@@ -12,7 +12,7 @@ use borrow.Author.Tests.{leb-true, leb-false, eqb-true, eqb-false}
 use Rattle.laws.specs.Lists.{joined}
 use Rattle.laws.proofs.Cases.{by-test}
 use Rattle.pools.specs.declared.Fortuna.{Fortuna}
-use Rattle.bench.specs.Frames.{maxLine}
+use Rattle.bench.specs.Frames.{maxWideLine}
 use Rattle.bench.specs.Lines.{LineEffect, lineFeed, lineOf}
 use Rattle.bench.specs.Input.{lastLine, linesAfter, lines, printedFrom, transcript, firstLine, hasLineFeed, usedBy, Session, heldLine, extended, ended, stepSession, stepPrinted, finishPrinted, chunkSession, chunkPrinted, chunksPrinted, start}
 use Rattle.bench.specs.Statements.{ChunksLaw}
@@ -22,7 +22,7 @@ use Rattle.bench.proofs.Lines.{lines-after, used-all, used-more}
 
 -- ---- a line so far that is too long may be cut
 
-cut-last : (s : Fortuna) (c : ℕ) (sofar : List ℕ) → maxLine < c → printedFrom s (lastLine (take c sofar)) ≡ printedFrom s (lastLine sofar)
+cut-last : (s : Fortuna) (c : ℕ) (sofar : List ℕ) → maxWideLine < c → printedFrom s (lastLine (take c sofar)) ≡ printedFrom s (lastLine sofar)
 unfolding printedFrom lastLine
 cut-last s c [] h = rw (take-nil c)
 cut-last s zero (x ∷ sofar) h = absurd (omega arith)
@@ -37,7 +37,7 @@ cut-more c sofar x =
     take-append-le c (take c sofar) (x ∷ []) (omega arith) ∙ take-all c (take c sofar) (omega arith) ∙ sym (take-append-le c sofar (x ∷ []) h))
     (λ t. rw (take-all c sofar (omega (arith, leb-false c (length sofar) t))))
 
-cut-lines : (input : List ℕ) (s : Fortuna) (c : ℕ) (sofar : List ℕ) → maxLine < c → printedFrom s (linesAfter (take c sofar) input) ≡ printedFrom s (linesAfter sofar input)
+cut-lines : (input : List ℕ) (s : Fortuna) (c : ℕ) (sofar : List ℕ) → maxWideLine < c → printedFrom s (linesAfter (take c sofar) input) ≡ printedFrom s (linesAfter sofar input)
 unfolding linesAfter printedFrom
 cut-lines [] s c sofar h = cut-last s c sofar h
 cut-lines (x ∷ input) s c sofar h =
@@ -80,7 +80,7 @@ state-extended : (x : Session) (more : List ℕ) → extended x more .state ≡ 
 unfolding extended
 state-extended x more = refl
 
-module _ (x : Session) (more : List ℕ) (room : maxLine < length (x .text)) where
+module _ (x : Session) (more : List ℕ) (room : maxWideLine < length (x .text)) where
   same-line : lineOf (x .state) (heldLine x ++ more) ≡ lineOf (extended x more .state) (heldLine (extended x more))
   same-line = sym (ap₂ lineOf (state-extended x more) (held-extended x more) ∙ cut-line (x .state) (length (x .text)) (heldLine x ++ more) room)
 
@@ -96,7 +96,7 @@ module _ (x : Session) (more : List ℕ) (room : maxLine < length (x .text)) whe
       sym (ap₂ (λ (s : Fortuna) (l : List ℕ). printedFrom s (linesAfter l input)) (state-extended x more) (held-extended x more)
       ∙ cut-lines input (x .state) (length (x .text)) (heldLine x ++ more) room)
 
-pub step-remaining : (x : Session) (r rest : List ℕ) → maxLine < length (x .text)
+pub step-remaining : (x : Session) (r rest : List ℕ) → maxWideLine < length (x .text)
     → remaining x (r ++ rest) ≡ stepPrinted x r ++ remaining (stepSession x r) (drop (usedBy r) r ++ rest)
 unfolding stepSession stepPrinted
 step-remaining x r rest room = ap (printedFrom (x .state)) (lines-after (heldLine x) r rest) ∙ go (hasLineFeed r) refl
@@ -126,7 +126,7 @@ nothing : (r : List ℕ) → length r ≡ 0 → r ≡ []
 nothing [] e = refl
 nothing (c ∷ r) e = absurd (omega arith)
 
-chunk-remaining : (n : ℕ) (x : Session) (r rest : List ℕ) → length r ≤ n → maxLine < length (x .text)
+chunk-remaining : (n : ℕ) (x : Session) (r rest : List ℕ) → length r ≤ n → maxWideLine < length (x .text)
     → remaining x (r ++ rest) ≡ chunkPrinted n x r ++ remaining (chunkSession n x r) rest
 unfolding chunkSession chunkPrinted
 chunk-remaining zero x [] rest h room = refl
@@ -141,7 +141,7 @@ chunk-remaining (suc n) x r rest h room =
     r′ = drop (usedBy r) r
 
     go : (t : Bool) → (t ≡ true → length r ≡ 0) → (t ≡ false → length r ≡ 0 → ⊥)
-        → (length r′ ≤ n → maxLine < length (x′ .text) → remaining x′ (r′ ++ rest) ≡ chunkPrinted n x′ r′ ++ remaining (chunkSession n x′ r′) rest)
+        → (length r′ ≤ n → maxWideLine < length (x′ .text) → remaining x′ (r′ ++ rest) ≡ chunkPrinted n x′ r′ ++ remaining (chunkSession n x′ r′) rest)
         → remaining x (r ++ rest) ≡ cond t [] (stepPrinted x r ++ chunkPrinted n x′ r′) ++ remaining (cond t x (chunkSession n x′ r′)) rest
     go true e f more = ap (λ (l : List ℕ). remaining x (l ++ rest)) (nothing r (e refl))
     go false e f more =
@@ -152,7 +152,7 @@ chunk-remaining (suc n) x r rest h room =
         ∙ ap (λ (l : List ℕ). stepPrinted x r ++ l) (more (rw length-drop (omega arith)) (rw (length-step x r) room))
         ∙ sym (append-assoc (stepPrinted x r) (chunkPrinted n x′ r′) (remaining (chunkSession n x′ r′) rest))
 
-chunks-remaining : (chunks : List (List ℕ)) (x : Session) → maxLine < length (x .text) → chunksPrinted x chunks ≡ remaining x (joined (λ chunk. chunk) chunks)
+chunks-remaining : (chunks : List (List ℕ)) (x : Session) → maxWideLine < length (x .text) → chunksPrinted x chunks ≡ remaining x (joined (λ chunk. chunk) chunks)
 unfolding chunksPrinted
 chunks-remaining [] x room = unfold finishPrinted joined linesAfter in refl
 chunks-remaining (chunk ∷ chunks) x room =

@@ -11,7 +11,7 @@ use Rattle.pools.specs.Calls.{event, request, update, write}
 use Rattle.bench.specs.Frames.{frameOfText}
 use Rattle.bench.specs.Lines.{lineCall, answerLine}
 use Rattle.bench.specs.Input.{lines, transcript}
-use Rattle.bench.specs.declared.frame.Frame.the-variants.{Event, Request, Update, Write, Invalid}
+use Rattle.bench.specs.declared.frame.Frame.the-variants.{Event, Request, Update, Write, WideEvent, Invalid}
 
 -- the ASCII numbers of a text
 unfoldable pub ascii : Text.String → List ℕ
@@ -45,12 +45,13 @@ LinesRow =
 -- an empty line, another first byte, odd digits, lower case, another character, a space
 abbrev pub NoFrameRow : Type 0
 NoFrameRow =
-    map frameOfText ([] ∷ ascii "00" ∷ ascii "05" ∷ ascii "010703A" ∷ ascii "010703a1" ∷ ascii "0107 3" ∷ ascii "010703 " ∷ [])
+    map frameOfText ([] ∷ ascii "00" ∷ ascii "06000703A1" ∷ ascii "010703A" ∷ ascii "010703a1" ∷ ascii "0107 3" ∷ ascii "010703 " ∷ [])
     ≡ replicate 7 Invalid
 
 -- each kind with a field missing
 abbrev pub MissingRow : Type 0
-MissingRow = map frameOfText (ascii "0107" ∷ ascii "020000000000" ∷ ascii "03000000" ∷ ascii "04000000" ∷ []) ≡ replicate 4 Invalid
+MissingRow =
+    map frameOfText (ascii "0107" ∷ ascii "020000000000" ∷ ascii "03000000" ∷ ascii "04000000" ∷ ascii "050384" ∷ []) ≡ replicate 5 Invalid
 
 -- bytes left over after 02 and 04
 abbrev pub LeftOverRow : Type 0
@@ -58,24 +59,37 @@ LeftOverRow = map frameOfText (ascii "0200000000001000" ∷ ascii "040000000000"
 
 -- numbers have the most significant byte first
 abbrev pub OrderRow : Type 0
-OrderRow = map frameOfText (ascii "0201020304FFFE" ∷ ascii "04FFFFFFFE" ∷ []) ≡ Request 0x0102_0304 0xfffe ∷ Write 0xffff_fffe ∷ []
+OrderRow =
+    map frameOfText (ascii "0201020304FFFE" ∷ ascii "04FFFFFFFE" ∷ ascii "05038403" ∷ [])
+    ≡ Request 0x0102_0304 0xfffe ∷ Write 0xffff_fffe ∷ WideEvent 0x0384 3 ∷ []
 
--- 256 characters, 257 and 258
+-- 256 characters, 257 and 258, with another frame than 05
 abbrev pub LongRow : Type 0
-LongRow = map (λ (n : ℕ). frameOfText (ascii "010703" ++ replicate n 0x30)) (250 ∷ 251 ∷ 252 ∷ []) ≡ Event 7 3 ∷ Invalid ∷ Invalid ∷ []
+LongRow =
+    map (λ (n : ℕ). frameOfText (ascii "010703" ++ replicate n 0x30)) (250 ∷ 251 ∷ 252 ∷ [])
+    ++ map (λ (n : ℕ). frameOfText (ascii "0300000009" ++ replicate n 0x30)) (246 ∷ 248 ∷ [])
+    ≡ Event 7 3 ∷ Invalid ∷ Invalid ∷ Update 9 ∷ Invalid ∷ []
+
+-- with frame 05: 256 characters, 257, 258, 259 and 260
+abbrev pub WideLongRow : Type 0
+WideLongRow =
+    map (λ (n : ℕ). frameOfText (ascii "05038403" ++ replicate n 0x30)) (248 ∷ 249 ∷ 250 ∷ 251 ∷ 252 ∷ [])
+    ≡ WideEvent 900 3 ∷ Invalid ∷ WideEvent 900 3 ∷ Invalid ∷ Invalid ∷ []
 
 -- ---- calls
 
--- the data are what stands after the header; requests and writes lend zeros; what is no frame makes no call
+-- the data are what stands after the header, of frames 01 and 05 alike; requests and writes lend zeros; what is no frame makes no call
 abbrev pub CallsRow : Type 0
 CallsRow =
-    map lineCall (ascii "010703A1B2" ∷ ascii "010703" ∷ ascii "02000000050003" ∷ ascii "02000000050000" ∷ ascii "0300000006FF00" ∷ ascii "0400000007" ∷ ascii "0G" ∷ [])
+    map lineCall (ascii "010703A1B2" ∷ ascii "010703" ∷ ascii "02000000050003" ∷ ascii "02000000050000" ∷ ascii "0300000006FF00" ∷ ascii "0400000007" ∷ ascii "05000703A1B2" ∷ ascii "05FFFF1FA1" ∷ ascii "0G" ∷ [])
     ≡ some (event 7 3 (0xa1 ∷ 0xb2 ∷ []))
     ∷ some (event 7 3 [])
     ∷ some (request 5 (0 ∷ 0 ∷ 0 ∷ []))
     ∷ some (request 5 [])
     ∷ some (update 6 (0xff ∷ 0 ∷ []))
     ∷ some (write 7 (replicate 64 0))
+    ∷ some (event 7 3 (0xa1 ∷ 0xb2 ∷ []))
+    ∷ some (event 65535 31 (0xa1 ∷ []))
     ∷ none
     ∷ []
 
@@ -105,6 +119,7 @@ pub record Examples : Type 0 where
   pub leftOver : LeftOverRow
   pub order : OrderRow
   pub long : LongRow
+  pub wideLong : WideLongRow
   pub calls : CallsRow
   pub eventLines : EventLinesRow
   pub outputLines : OutputLinesRow

@@ -1,17 +1,28 @@
 -- Which frame a line is.
 -- Assumes nothing.
-use mathlib.Core.Bool.{cond, _&&_}
+use mathlib.Core.Bool.{Bool, cond, _&&_}
 use mathlib.Core.List.{List, [], _∷_}
 use Prim.Native.Nat.{ℕ, _+_, _*_}
 use lib.Dec.{eqb, leb}
 use lib.ListN.{length, getD}
 use Rattle.bench.specs.Hexadecimal.{isHex, decodeHex}
 use Rattle.bench.specs.declared.frame.Frame.{Frame}
-use Rattle.bench.specs.declared.frame.Frame.the-variants.{Event, Request, Update, Write, Invalid}
+use Rattle.bench.specs.declared.frame.Frame.the-variants.{Event, Request, Update, Write, WideEvent, Invalid}
 
--- the most characters of a line, its line feed not counted
-abbrev pub maxLine : ℕ
-maxLine = 256
+-- the most characters of a line, its line feed not counted: of one that begins with 05, and of any other
+abbrev pub maxWideLine : ℕ
+maxWideLine = 258
+
+abbrev pub maxOtherLine : ℕ
+maxOtherLine = 256
+
+-- the first two characters are 0 and 5
+unfoldable pub isWide : List ℕ → Bool
+isWide text = eqb (getD text 0 0) 48 && eqb (getD text 1 0) 53
+
+-- the most characters that a line may have: its first two decide
+unfoldable pub maxLine : List ℕ → ℕ
+maxLine text = cond (isWide text) maxWideLine maxOtherLine
 
 -- the number in two bytes from a place on, most significant first
 unfoldable pub bigEndian16 : List ℕ → ℕ → ℕ
@@ -37,6 +48,10 @@ updateFrame bytes = cond (leb 5 (length bytes)) (Update (bigEndian32 bytes 1)) I
 unfoldable pub writeFrame : List ℕ → Frame
 writeFrame bytes = cond (eqb (length bytes) 5) (Write (bigEndian32 bytes 1)) Invalid
 
+-- 05: source (2 bytes), pool byte, data (the rest)
+unfoldable pub wideEventFrame : List ℕ → Frame
+wideEventFrame bytes = cond (leb 4 (length bytes)) (WideEvent (bigEndian16 bytes 1) (getD bytes 3 0)) Invalid
+
 -- the frame that bytes make, by the first of them
 unfoldable pub frameOf : List ℕ → Frame
 frameOf [] = Invalid
@@ -45,11 +60,12 @@ frameOf (kind ∷ fields) =
     (cond (eqb kind 2) (requestFrame (kind ∷ fields))
     (cond (eqb kind 3) (updateFrame (kind ∷ fields))
     (cond (eqb kind 4) (writeFrame (kind ∷ fields))
-    Invalid)))
+    (cond (eqb kind 5) (wideEventFrame (kind ∷ fields))
+    Invalid))))
 
 -- the frame that a line of text is
 unfoldable pub frameOfText : List ℕ → Frame
-frameOfText text = cond (leb (length text) maxLine && isHex text) (frameOf (decodeHex text)) Invalid
+frameOfText text = cond (leb (length text) (maxLine text) && isHex text) (frameOf (decodeHex text)) Invalid
 
 -- how many bytes stand before a frame's data
 unfoldable pub headerLength : Frame → ℕ
@@ -57,4 +73,5 @@ headerLength (Event source pool) = 3
 headerLength (Request clock count) = 7
 headerLength (Update clock) = 5
 headerLength (Write clock) = 5
+headerLength (WideEvent source pool) = 4
 headerLength Invalid = 0

@@ -9,7 +9,7 @@ use lib.ListN.{length, take, drop}
 use Rattle.laws.specs.Lists.{overwrite}
 use Rattle.pools.specs.State.{fresh}
 use Rattle.pools.specs.declared.Fortuna.{Fortuna}
-use Rattle.bench.specs.Frames.{maxLine}
+use Rattle.bench.specs.Frames.{maxWideLine}
 use Rattle.bench.specs.Buffers.{zeros, appended, heldAfter}
 use Rattle.bench.specs.Lines.{lineFeed, lineOf}
 use Rattle.bench.specs.declared.input.StepOutcome.{StepOutcome}
@@ -56,9 +56,9 @@ hasLineFeed (c ∷ rest) = eqb c lineFeed || hasLineFeed rest
 unfoldable pub usedBy : List ℕ → ℕ
 usedBy rest = length (firstLine rest) + cond (hasLineFeed rest) 1 0
 
--- room for a line that is too long to be a frame
+-- room for a line that is too long to be a frame of any kind
 abbrev pub lineBuffer : ℕ
-lineBuffer = maxLine + 1
+lineBuffer = maxWideLine + 1
 
 -- between two steps: the state, and the line so far, which stands in the first `held` places of `text`
 pub record Session : Type 0 where

@@ -15,7 +15,7 @@ use Rattle.bench.specs.Hexadecimal.{decodeHex, encodeHex, decimal}
 use Rattle.bench.specs.Frames.{frameOfText, headerLength}
 use Rattle.bench.specs.Buffers.{zeros}
 use Rattle.bench.specs.declared.frame.Frame.{Frame}
-use Rattle.bench.specs.declared.frame.Frame.the-variants.{Event, Request, Update, Write, Invalid}
+use Rattle.bench.specs.declared.frame.Frame.the-variants.{Event, Request, Update, Write, WideEvent, Invalid}
 use Rattle.bench.specs.declared.line.LineOutcome.{LineOutcome}
 
 -- ---- the call
@@ -26,6 +26,7 @@ callOf (Event source pool) bytes = some (event source pool (drop (headerLength (
 callOf (Request clock count) bytes = some (request clock (zeros count))
 callOf (Update clock) bytes = some (update clock (drop (headerLength (Update clock)) bytes))
 callOf (Write clock) bytes = some (write clock (zeros seedSize))
+callOf (WideEvent source pool) bytes = some (event source pool (drop (headerLength (WideEvent source pool)) bytes))
 callOf Invalid bytes = none
 
 -- the call that a line of text makes

@@ -2,14 +2,15 @@
 ghost use mathlib.Core.Path.{_≡_};
 ghost use Prim.Native.Nat.{_+_, _≤_};
 ghost use lib.ListN.{length};
-ghost use Rattle.bench.specs.Frames.{bigEndian16, bigEndian32, eventFrame, requestFrame, updateFrame, writeFrame, frameOf};
+ghost use Rattle.bench.specs.Frames.{bigEndian16, bigEndian32, eventFrame, requestFrame, updateFrame, writeFrame, wideEventFrame, frameOf};
 
-// A frame. An event's data are the bytes from place 3 on, an update's seed those from place 5 on.
+// A frame. An event's data are the bytes from place 3 on, a wide event's those from place 4 on, an update's seed those from place 5 on.
 pub enum Frame {
     Event { source: u32, pool: u32 },
     Request { clock: u32, count: u16 },
     Update { clock: u32 },
     Write { clock: u32 },
+    WideEvent { source: u32, pool: u32 },
     Invalid,
 }
 
@@ -91,6 +92,19 @@ fn write_frame(bytes: &[u8]) -> Frame
     Frame::Invalid
 }
 
+// 05: source (2 bytes), pool byte, data (the rest).
+fn wide_event_frame(bytes: &[u8]) -> Frame
+    ensures { λ r. ⌜ r ≡ wideEventFrame (now (bytes .entry)) ⌝ }
+{
+    if 4 <= bytes.len() {
+        return Frame::WideEvent {
+            source: wide32(big_endian16(bytes, 1)),
+            pool: wide32(wide16(bytes[3])),
+        };
+    }
+    Frame::Invalid
+}
+
 // The frame that bytes make.
 pub fn parse(bytes: &[u8]) -> Frame
     ensures { λ r. ⌜ r ≡ frameOf (now (bytes .entry)) ⌝ }
@@ -103,6 +117,7 @@ pub fn parse(bytes: &[u8]) -> Frame
         2 => request_frame(bytes),
         3 => update_frame(bytes),
         4 => write_frame(bytes),
+        5 => wide_event_frame(bytes),
         _ => Frame::Invalid,
     }
 }

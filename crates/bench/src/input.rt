@@ -7,8 +7,8 @@ use crate::line::MAX_OUTPUT;
 use crate::line::line;
 use pools::Fortuna;
 
-// Room for a line that is too long to be a frame.
-pub const LINE_BUFFER: usize = 257;
+// Room for a line that is too long to be a frame of any kind.
+pub const LINE_BUFFER: usize = 259;
 
 // The state, how many characters of the line so far are held, how many of the chunk were used, and how many were printed.
 #[repr(C)]

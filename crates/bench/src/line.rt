@@ -1,10 +1,11 @@
 // One line on a Fortuna state.
+ghost use mathlib.Core.Path.{_≡_};
 ghost use mathlib.Core.Option.{none, some};
 ghost use Prim.Native.Nat.{_+_, _*_, _≤_};
 ghost use lib.ListN.{length};
 ghost use Rattle.pools.specs.Calls.{event, request, update, write};
 ghost use Rattle.pools.specs.Refusals.{seedSize};
-ghost use Rattle.bench.specs.Frames.{frameOf};
+ghost use Rattle.bench.specs.Frames.{maxLine, frameOf};
 ghost use Rattle.bench.specs.Buffers.{zeros};
 ghost use Rattle.bench.specs.Lines.{callOf, executed, lineOf, Prints};
 use crate::buffer::zero_buffer;
@@ -16,8 +17,10 @@ use crate::print::number_line;
 use crate::print::output_line;
 use pools::Fortuna;
 
-// The most characters of a line, its line feed not counted.
-pub const MAX_LINE: usize = 256;
+// The most characters of a line, its line feed not counted: of one that begins with 05, and of any other.
+const MAX_WIDE_LINE: usize = 258;
+
+const MAX_OTHER_LINE: usize = 256;
 
 // Room for the longest line that is printed: 00, the pools emptied, 65,535 bytes, and the line feed.
 pub const MAX_OUTPUT: usize = 2 * 65535 + 7;
@@ -27,6 +30,22 @@ pub const MAX_OUTPUT: usize = 2 * 65535 + 7;
 pub struct LineOutcome {
     pub next: Fortuna,
     pub written: usize,
+}
+
+// The most characters that a line may have: its first two decide.
+fn max_line(text: &[u8]) -> usize
+    ensures { λ r. ⌜ r ≡ maxLine (now (text .entry)) ⌝ }
+{
+    if text.len() < 2 {
+        return MAX_OTHER_LINE;
+    }
+    if text[0] != 48 {
+        return MAX_OTHER_LINE;
+    }
+    if text[1] != 53 {
+        return MAX_OTHER_LINE;
+    }
+    MAX_WIDE_LINE
 }
 
 // No frame: 16, and no call is made.
@@ -90,7 +109,7 @@ fn write_line(state: Fortuna, clock: u32, out: &mut [u8]) -> LineOutcome
 
 // The call of a frame of bytes. An update writes over its seed.
 fn execute(state: Fortuna, bytes: &mut [u8], out: &mut [u8]) -> LineOutcome
-    requires { ⌜ (131077 ≤ length (now out)) × (length (now bytes) ≤ 128) ⌝ }
+    requires { ⌜ (131077 ≤ length (now out)) × (length (now bytes) ≤ 129) ⌝ }
     ensures { λ r. ⌜ Prints (executed state (callOf (frameOf (now (bytes .entry))) (now (bytes .entry)))) r (now (out .entry)) (now (out .exit)) ⌝ }
 {
     let frame = parse(bytes);
@@ -99,6 +118,7 @@ fn execute(state: Fortuna, bytes: &mut [u8], out: &mut [u8]) -> LineOutcome
         Frame::Request { clock, count } => request_line(state, clock, count, out),
         Frame::Update { clock } => update_line(state, clock, &mut bytes[5..], out),
         Frame::Write { clock } => write_line(state, clock, out),
+        Frame::WideEvent { source, pool } => event_line(state, source, pool, &bytes[4..], out),
         Frame::Invalid => invalid_line(state, out),
     }
 }
@@ -107,13 +127,13 @@ fn execute(state: Fortuna, bytes: &mut [u8], out: &mut [u8]) -> LineOutcome
 pub fn line(state: Fortuna, text: &[u8], out: &mut [u8; MAX_OUTPUT]) -> LineOutcome
     ensures { λ r. ⌜ Prints (lineOf state (now (text .entry))) r (now (out .entry)) (now (out .exit)) ⌝ }
 {
-    if MAX_LINE < text.len() {
+    if max_line(text) < text.len() {
         return invalid_line(state, out);
     }
     if !is_hex(text) {
         return invalid_line(state, out);
     }
-    let mut bytes = [0u8; 128];
+    let mut bytes = [0u8; MAX_WIDE_LINE / 2];
     decode(text, &mut bytes);
     let n = text.len() / 2;
     execute(state, &mut bytes[..n], out)

@@ -104,7 +104,7 @@ update-room m c due seed e = not-spent c due 7 (update-passed m c due seed e .1)
 -- ---- an event
 
 pub record EventPassed (source pool n : ℕ) : Type 0 where
-  pub byte : source ≤ maxSource
+  pub known : source ≤ maxSource
   pub place : pool < poolCount
   pub short : n ≤ maxData
 
@@ -116,7 +116,7 @@ input-passed source pool n e =
     let q = passed (ltb 31 pool) 12 (refuse long 13 0) (omega arith) (p .1) in
     let l = passed long 13 0 (omega arith) (q .1) in
     record {
-      byte = ltb-false maxSource source (p .0);
+      known = ltb-false maxSource source (p .0);
       place = omega (arith, ltb-false 31 pool (q .0));
       short = ltb-false maxData n (neither (eqb n 0) (ltb maxData n) (l .0) .1);
     }

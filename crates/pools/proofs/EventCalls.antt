@@ -44,7 +44,7 @@ module _ (s : Fortuna) (source pool : ℕ) (d : List ℕ) (m : Bool) (k : ℕ) (
     passed = event-passed m _ source pool (length d) none
 
     pub event-asks : (source ≤ maxSource) × (length d ≤ maxData) × (poolAt s (pool % 32) .length + gain (length d) ≤ maxPoolLength)
-    event-asks = (passed .byte, passed .short, event-room m _ source pool (length d) none)
+    event-asks = (passed .known, passed .short, event-room m _ source pool (length d) none)
 
     pub event-effect : (q : Hasher) → q ≡ absorb (poolAt s (pool % 32)) (eventBytes source d)
         → (0 ≡ callEffect s (event source pool d) .emptied)

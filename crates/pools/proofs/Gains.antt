@@ -1,8 +1,8 @@
 -- The bytes of an event, as the code puts them together.
 -- Assumes nothing.
-use mathlib.Core.Path.{_≡_, refl, ap, _∙_}
-use mathlib.Core.List.{List, [], _∷_, _++_, append-nil}
-use Prim.Native.Nat.{ℕ, suc, _+_, _-_, _≤_}
+use mathlib.Core.Path.{_≡_, refl, sym, ap, _∙_}
+use mathlib.Core.List.{List, [], _++_, append-nil, append-assoc}
+use Prim.Native.Nat.{ℕ, _+_, _-_, _≤_}
 use native.Mathlib.Omega.{arith}
 use lib.ListN.{length, take, drop, length-append, length-drop}
 use lib.Seq.{take-at}
@@ -13,32 +13,33 @@ use Rattle.hash.specs.Double.{maxMessage, maxPoolLength}
 use Rattle.hash.specs.Answers.{absorbed}
 use Rattle.hash.specs.declared.hasher.Hasher.{Hasher}
 use Rattle.hash.proofs.Laws.{absorbed-within, pool-length-fits}
-use Rattle.pools.specs.Events.{maxData, eventBytes, headerLength, gain}
+use Rattle.pools.specs.Events.{maxData, header, headerLength, eventBytes, gain}
 
--- the data fits into the bytes z behind the header, and ys is what was written there
-pub event-front : (source : ℕ) (d z ys : List ℕ) → length d ≤ length z → ys ≡ overwrite z d
-    → take (2 + length d) (source ∷ length d ∷ (ys ++ [])) ≡ eventBytes source d
-unfolding eventBytes
-event-front source d z ys h e =
-    let front : take (length d) (ys ++ []) ≡ d = rw (append-nil, e, overwrite-fits z d h) (take-at d (drop (length d) z) (length d) refl) in
-    let two : 2 + length d ≡ suc (suc (length d)) = omega arith in
-    rw two (ap (λ (r : List ℕ). source ∷ length d ∷ r) front)
-
--- and all of it has room
-pub event-room : (source : ℕ) (d z ys : List ℕ) → length d ≤ length z → ys ≡ overwrite z d → 2 + length d ≤ length (source ∷ length d ∷ (ys ++ []))
-event-room source d z ys h e =
-    let n : length (ys ++ []) ≡ length d + (length z - length d) =
-    rw (append-nil, e, overwrite-fits z d h, length-append, length-drop) refl in
-    omega arith
+-- the header has its length
+length-header : (source n : ℕ) → length (header source n) ≡ headerLength
+unfolding header headerLength
+length-header source n = refl
 
 -- what a pool gains of n bytes of data is the length of the event's bytes
 pub length-event : (source : ℕ) (d : List ℕ) → length (eventBytes source d) ≡ gain (length d)
-unfolding eventBytes gain headerLength
-length-event source d = omega arith
+unfolding eventBytes gain
+length-event source d = length-append (header source (length d)) d ∙ ap (λ (n : ℕ). n + length d) (length-header source (length d))
 
-pub length-event-is : (source : ℕ) (d : List ℕ) → length (eventBytes source d) ≡ 2 + length d
-unfolding eventBytes
-length-event-is source d = omega arith
+-- the data fits into the bytes z behind the header, and ys is what was written there
+module _ (source : ℕ) (d z ys : List ℕ) (fits : length d ≤ length z) (written : ys ≡ overwrite z d) where
+  behind : ys ++ [] ≡ d ++ drop (length d) z
+  behind = append-nil ys ∙ written ∙ overwrite-fits z d fits
+
+  all : header source (length d) ++ (ys ++ []) ≡ eventBytes source d ++ drop (length d) z
+  unfolding eventBytes
+  all = ap (λ (r : List ℕ). header source (length d) ++ r) behind ∙ sym (append-assoc (header source (length d)) d (drop (length d) z))
+
+  pub event-front : take (gain (length d)) (header source (length d) ++ (ys ++ [])) ≡ eventBytes source d
+  event-front = rw all (take-at (eventBytes source d) (drop (length d) z) (gain (length d)) (length-event source d))
+
+  -- and all of it has room
+  pub event-room : gain (length d) ≤ length (header source (length d) ++ (ys ++ []))
+  event-room = rw (all, length-append, length-event source d) (omega arith)
 
 -- accepted data fits behind the header
 pub data-fits : (n : ℕ) → n ≤ maxData → n ≤ 32

@@ -1,12 +1,12 @@
 -- What an event puts into its pool (004, 9.5.1 and 9.5.3.1).
 -- Assumes nothing.
-use mathlib.Core.List.{List, _∷_}
-use Prim.Native.Nat.{ℕ, _+_}
+use mathlib.Core.List.{List, [], _∷_, _++_}
+use Prim.Native.Nat.{ℕ, _+_, _/_, _%_}
 use lib.ListN.{length}
 
 -- the largest source, the count of pools, the most bytes of data (11, 12, 13)
 unfoldable pub maxSource : ℕ
-maxSource = 255
+maxSource = 65535
 
 unfoldable pub poolCount : ℕ
 poolCount = 32
@@ -14,13 +14,18 @@ poolCount = 32
 unfoldable pub maxData : ℕ
 maxData = 32
 
--- the bytes that the pool gains: source byte, length byte, data
-unfoldable pub eventBytes : ℕ → List ℕ → List ℕ
-eventBytes source «data» = source ∷ length «data» ∷ «data»
+-- what stands before n bytes of data: the source in two bytes, least significant first, and the length
+unfoldable pub header : ℕ → ℕ → List ℕ
+header source n = source % 256 ∷ source / 256 ∷ n ∷ []
 
--- the header's bytes, and what a pool gains of n bytes of data
+-- the header's bytes
 unfoldable pub headerLength : ℕ
-headerLength = 2
+headerLength = 3
 
+-- the bytes that the pool gains: header, data
+unfoldable pub eventBytes : ℕ → List ℕ → List ℕ
+eventBytes source «data» = header source (length «data») ++ «data»
+
+-- and how many they are for n bytes of data
 unfoldable pub gain : ℕ → ℕ
 gain n = headerLength + n

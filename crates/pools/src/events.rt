@@ -8,8 +8,8 @@ ghost use Rattle.hash.specs.Double.{maxPoolLength};
 ghost use Rattle.hash.specs.Hasher.{absorb};
 ghost use Rattle.pools.specs.Events.{maxSource, maxData, eventBytes, gain};
 
-// The bytes before the data: source and length.
-pub(crate) const HEADER: usize = 2;
+// The bytes before the data: two of the source, least significant first, and the length.
+pub(crate) const HEADER: usize = 3;
 
 pub(crate) const MAX_DATA: usize = 32;
 
@@ -20,8 +20,9 @@ pub(crate) fn gained(pool: Hasher, source: u32, data: &[u8]) -> Hasher
 {
     let mut bytes = [0u8; HEADER + MAX_DATA];
     let n = data.len();
-    bytes[0] = source as u8;
-    bytes[1] = n as u8;
+    bytes[0] = (source % 256) as u8;
+    bytes[1] = (source / 256) as u8;
+    bytes[2] = n as u8;
     overwrite(&mut bytes[HEADER..], data);
     let absorbed = pool.absorb(&bytes[..HEADER + n]);
     absorbed.next

@@ -14,7 +14,7 @@ ghost use Rattle.pools.specs.Pool.{full};
 ghost use Rattle.pools.specs.Refusals.{unseeded, spent, eventNumber, outputState, requestNumber, writeNumber, updateNumber, drawNumber, shuffleNumber};
 ghost use Rattle.pools.specs.Promises.{number};
 
-const MAX_SOURCE: u32 = 255;
+const MAX_SOURCE: u32 = 65535;
 
 const LAST_POOL: u32 = 31;
 

@@ -16,7 +16,7 @@ use Rattle.hash.proofs.Laws.{pool-empty}
 use Rattle.generator.specs.Steps.{initial, encode}
 use Rattle.generator.specs.Operations as Operations
 use Rattle.pools.specs.declared.Fortuna.{Fortuna}
-use Rattle.pools.specs.Events.{poolCount, eventBytes, gain, headerLength}
+use Rattle.pools.specs.Events.{poolCount, eventBytes}
 use Rattle.pools.specs.State.{fresh, counterOf, malformed, due}
 use Rattle.pools.specs.Refusals.{andThen, seedSize, maxTries, requestNumber, updateNumber, writeNumber, drawNumber, shuffleNumber}
 use Rattle.pools.specs.Effects.{Effect, unchanged, writeSeed}
@@ -27,6 +27,7 @@ use Rattle.reference.specs.Agreement.{concrete, concreteOutcome, RunIsSt
 use Rattle.reference.proofs.Invariant.{Sound, sound-empty, sound-event, empty-contents}
 use Rattle.reference.proofs.Concrete.{size-concrete, counter-concrete, due-concrete, malformed-concrete}
 use Rattle.pools.proofs.Acceptance.{then-cong, not-spent, event-passed, event-room, event-size, request-room, write-room, update-room, draw-passed, shuffle-passed}
+use Rattle.pools.proofs.Gains.{length-event}
 use Rattle.pools.proofs.EachTry.{idle-shuffle}
 use Rattle.reference.proofs.Advances.{outcome-keeps}
 use Rattle.reference.proofs.Simulation.{concreteEffect, add-event-concrete}
@@ -35,10 +36,6 @@ use Rattle.reference.proofs.Carried.{carried}
 use Rattle.reference.proofs.Draws.{concreteDrawn, Ready, tries-agree, shuffle-agrees}
 
 -- ---- each call: the number, and the effect if it is accepted
-
-event-length : (source : ℕ) (content : List ℕ) → length (eventBytes source content) ≡ gain (length content)
-unfolding eventBytes gain headerLength
-event-length source content = omega arith
 
 module _ (b : Reference) (s : Sound b) where
   by-reading : {A : Type 0} (number : Bool → ℕ → Bool → A → ℕ) (t : ℕ) (x : A)
@@ -118,7 +115,7 @@ module _ (b : Reference) (s : Sound b) where
   pub effect-sound : (place : ℕ) (c : Call) → referenceNumber b c ≡ 0 → Sound (referenceEffect place b c .next)
   unfolding referenceNumber referenceEffect
   effect-sound place (event source pool content) e =
-      sound-event place b pool (eventBytes source content) (rw (event-length source content) (event-room false _ source pool (length content) e)) s
+      sound-event place b pool (eventBytes source content) (rw (length-event source content) (event-room false _ source pool (length content) e)) s
   effect-sound place (request t buffer) e = request-sound b t (length buffer) s (request-room false (b .generator .count) (dueAt b t) (length buffer) e)
   effect-sound place (update t seed) e = update-sound b seed t s (update-room false (b .generator .count) (dueAt b t) seed e)
   effect-sound place (write t seed) e = request-sound b t seedSize s (write-room false (b .generator .count) (dueAt b t) seed e)

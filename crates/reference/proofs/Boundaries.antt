@@ -11,15 +11,15 @@ use Rattle.generator.specs.Steps.{decode, encode, initial, reseed, blockCount}
 use Rattle.generator.specs.Refusals as Generator
 use Rattle.generator.specs.Operations as Operations
 use Rattle.slots.specs.Shuffle.{isIn, hasRepeat}
-use Rattle.pools.specs.Events.{maxSource, poolCount, maxData, eventBytes, headerLength, gain}
+use Rattle.pools.specs.Events.{maxSource, poolCount, maxData, header, eventBytes, headerLength, gain}
 use Rattle.pools.specs.Schedule.{used, usedBelow, usedPools, elapsed, isDue}
 use Rattle.pools.specs.Pool.{tooLong, dirtyTail, strayChain, malformedPool, full}
 use Rattle.pools.specs.State.{fresh, poolAt, counterOf, anyPool, unseededReseeded, strayTimer, malformedFields, malformed, due}
 use Rattle.pools.specs.Refusals.{andThen, seedSize, unseeded, spent, eventInput, eventState, eventNumber, requestInput, outputState, requestNumber, seedInput, updateState, updateNumber, writeNumber, maxBelow, maxTries, maxList, drawInput, drawNumber, listInput, shuffleState, shuffleNumber}
-use Rattle.pools.specs.Effects.{unchanged}
+use Rattle.pools.specs.Effects.{unchanged, withPool, addEvent}
 use Rattle.pools.specs.Calls.{inputBuffer, callNumber, callEffect, callFound, callValue, effectOf, outcome, step}
 use Rattle.reference.specs.Readings.{wholeBlocks, reseededState, seededState}
-use Rattle.reference.specs.Boundaries.{answers, withPools, withFirstPool, withTimer, keyedUnseeded, refusals, EventRow, EventOrderRow, RoomRow, RequestRow, SeedRow, SeedRoomRow, DrawRow, ShuffleRow, RefusedRow, PoolClausesRow, LastPoolRow, TimerClausesRow, UsedRow, ReseedRow, Boundaries}
+use Rattle.reference.specs.Boundaries.{answers, withPools, withFirstPool, withTimer, keyedUnseeded, refusals, EventRow, EventOrderRow, HeaderRow, RoomRow, RequestRow, SeedRow, SeedRoomRow, DrawRow, ShuffleRow, RefusedRow, PoolClausesRow, LastPoolRow, TimerClausesRow, UsedRow, ReseedRow, Boundaries}
 
 events-row : EventRow
 unfolding tabulate allZero sameList H⁰ zeroFilled emptyHasher absorbFrom absorb blocks maxMessage maxDMessage maxPoolLength emptyPool value littleEndian maxCounter decode encode initial Generator.malformed Operations.fresh poolCount tooLong dirtyTail strayChain malformedPool fresh poolAt counterOf anyPool unseededReseeded strayTimer malformedFields malformed andThen inputBuffer callNumber callEffect unchanged effectOf outcome callFound callValue step maxSource maxData eventBytes headerLength gain full eventInput eventState eventNumber wholeBlocks reseededState seededState answers withPools withFirstPool withTimer keyedUnseeded
@@ -28,6 +28,10 @@ events-row = refl
 event-order-row : EventOrderRow
 unfolding tabulate allZero sameList H⁰ zeroFilled emptyHasher absorbFrom absorb blocks maxMessage maxDMessage maxPoolLength emptyPool value littleEndian maxCounter decode encode initial Generator.malformed Operations.fresh poolCount tooLong dirtyTail strayChain malformedPool fresh poolAt counterOf anyPool unseededReseeded strayTimer malformedFields malformed andThen inputBuffer callNumber callEffect unchanged effectOf outcome callFound callValue step maxSource maxData eventBytes headerLength gain full eventInput eventState eventNumber wholeBlocks reseededState seededState answers withPools withFirstPool withTimer keyedUnseeded
 event-order-row = refl
+
+headers-row : HeaderRow
+unfolding tabulate allZero sameList H⁰ zeroFilled emptyHasher absorbFrom absorb blocks maxMessage maxDMessage maxPoolLength emptyPool value littleEndian maxCounter decode encode initial Generator.malformed Operations.fresh poolCount tooLong dirtyTail strayChain malformedPool fresh poolAt counterOf anyPool unseededReseeded strayTimer malformedFields malformed andThen inputBuffer callNumber callEffect unchanged effectOf outcome callFound callValue step maxSource maxData header eventBytes headerLength gain full eventInput eventState eventNumber withPool addEvent
+headers-row = refl
 
 room-row : RoomRow
 unfolding tabulate allZero sameList H⁰ zeroFilled emptyHasher absorbFrom absorb blocks maxMessage maxDMessage maxPoolLength emptyPool value littleEndian maxCounter decode encode initial Generator.malformed Operations.fresh poolCount tooLong dirtyTail strayChain malformedPool fresh poolAt counterOf anyPool unseededReseeded strayTimer malformedFields malformed andThen inputBuffer callNumber callEffect unchanged effectOf outcome callFound callValue step maxSource maxData eventBytes headerLength gain full eventInput eventState eventNumber wholeBlocks reseededState seededState answers withPools withFirstPool withTimer keyedUnseeded
@@ -82,6 +86,7 @@ boundaries =
     record {
       events = events-row;
       eventOrder = event-order-row;
+      headers = headers-row;
       room = room-row;
       requests = requests-row;
       seeds = seeds-row;

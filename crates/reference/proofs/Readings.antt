@@ -14,7 +14,7 @@ use Rattle.generator.specs.Closed.{rekeyed, closedRandomData}
 use Rattle.generator.specs.Refusals as Generator
 use Rattle.generator.specs.Operations as Operations
 use Rattle.generator.proofs.Steps.{random-data-closed}
-use Rattle.pools.specs.Events.{maxSource, poolCount, maxData, eventBytes, headerLength, gain}
+use Rattle.pools.specs.Events.{maxSource, poolCount, maxData, header, eventBytes, headerLength, gain}
 use Rattle.pools.specs.Schedule.{used, usedBelow, usedPools, elapsed, isDue}
 use Rattle.pools.specs.Pool.{tooLong, dirtyTail, strayChain, malformedPool, full}
 use Rattle.pools.specs.State.{fresh, poolAt, counterOf, anyPool, unseededReseeded, strayTimer, malformedFields, malformed, due}
@@ -25,7 +25,7 @@ use Rattle.reference.specs.Reference.{scheduledReseed, scheduled, select
 use Rattle.reference.specs.Readings.{wholeBlocks, reseededState, seededState, emptiedAt, filled, bookedAfter, GainRow, EmptiedRow, DueRow, FirstReseedRow, GrowthRow, UpdateRow, SpentRow, ScheduleRow, Readings}
 
 gain-row : GainRow
-unfolding tabulate allZero sameList H⁰ zeroFilled emptyHasher absorbFrom absorb blocks maxMessage maxDMessage maxPoolLength emptyPool value littleEndian maxCounter decode encode initial Generator.malformed Operations.fresh poolCount tooLong dirtyTail strayChain malformedPool fresh poolAt counterOf anyPool unseededReseeded strayTimer malformedFields malformed andThen inputBuffer callNumber callEffect unchanged effectOf outcome callFound callValue step maxSource maxData eventBytes headerLength gain full eventInput eventState eventNumber withPool addEvent
+unfolding tabulate allZero sameList H⁰ zeroFilled emptyHasher absorbFrom absorb blocks maxMessage maxDMessage maxPoolLength emptyPool value littleEndian maxCounter decode encode initial Generator.malformed Operations.fresh poolCount tooLong dirtyTail strayChain malformedPool fresh poolAt counterOf anyPool unseededReseeded strayTimer malformedFields malformed andThen inputBuffer callNumber callEffect unchanged effectOf outcome callFound callValue step maxSource maxData header eventBytes headerLength gain full eventInput eventState eventNumber withPool addEvent
 gain-row = refl
 
 emptied-row : EmptiedRow
@@ -37,7 +37,7 @@ unfolding tabulate allZero sameList H⁰ zeroFilled emptyHasher absorbFrom absor
 due-row = refl
 
 first-reseed-row : FirstReseedRow
-unfolding tabulate allZero sameList H⁰ zeroFilled emptyHasher absorbFrom absorb blocks maxMessage maxDMessage maxPoolLength emptyPool value littleEndian maxCounter decode encode initial Generator.malformed Operations.fresh poolCount tooLong dirtyTail strayChain malformedPool fresh poolAt counterOf anyPool unseededReseeded strayTimer malformedFields malformed andThen inputBuffer callNumber callEffect unchanged effectOf outcome callFound callValue step maxSource maxData eventBytes headerLength gain full eventInput eventState eventNumber withPool addEvent blockCount Generator.maxRequest elapsed isDue due unseeded spent requestInput outputState requestNumber used usedBelow usedPools nextReseed emptiedBy randomData runFrom run filled
+unfolding tabulate allZero sameList H⁰ zeroFilled emptyHasher absorbFrom absorb blocks maxMessage maxDMessage maxPoolLength emptyPool value littleEndian maxCounter decode encode initial Generator.malformed Operations.fresh poolCount tooLong dirtyTail strayChain malformedPool fresh poolAt counterOf anyPool unseededReseeded strayTimer malformedFields malformed andThen inputBuffer callNumber callEffect unchanged effectOf outcome callFound callValue step maxSource maxData header eventBytes headerLength gain full eventInput eventState eventNumber withPool addEvent blockCount Generator.maxRequest elapsed isDue due unseeded spent requestInput outputState requestNumber used usedBelow usedPools nextReseed emptiedBy randomData runFrom run filled
 first-reseed-row = refl
 
 -- C after a request of n bytes with nothing due
@@ -58,7 +58,7 @@ unfolding tabulate allZero sameList H⁰ zeroFilled emptyHasher absorbFrom absor
 spent-row = refl
 
 schedule-row : ScheduleRow
-unfolding tabulate allZero sameList H⁰ zeroFilled emptyHasher absorbFrom absorb blocks maxMessage maxDMessage maxPoolLength emptyPool value littleEndian maxCounter decode encode initial Generator.malformed Operations.fresh poolCount tooLong dirtyTail strayChain malformedPool fresh poolAt counterOf anyPool unseededReseeded strayTimer malformedFields malformed andThen inputBuffer callNumber callEffect unchanged effectOf outcome callFound callValue step maxSource maxData eventBytes headerLength gain full eventInput eventState eventNumber withPool addEvent scheduledReseed scheduled select pending contents poolContents joined appendEvent referenceNumber referenceEffect referenceStep bookedAfter
+unfolding tabulate allZero sameList H⁰ zeroFilled emptyHasher absorbFrom absorb blocks maxMessage maxDMessage maxPoolLength emptyPool value littleEndian maxCounter decode encode initial Generator.malformed Operations.fresh poolCount tooLong dirtyTail strayChain malformedPool fresh poolAt counterOf anyPool unseededReseeded strayTimer malformedFields malformed andThen inputBuffer callNumber callEffect unchanged effectOf outcome callFound callValue step maxSource maxData header eventBytes headerLength gain full eventInput eventState eventNumber withPool addEvent scheduledReseed scheduled select pending contents poolContents joined appendEvent referenceNumber referenceEffect referenceStep bookedAfter
 schedule-row = refl
 
 pub readings : Readings

@@ -5,13 +5,13 @@ use mathlib.Core.Path.{_≡_}
 use mathlib.Core.Bool.{Bool, true, false}
 use mathlib.Core.List.{List, [], _∷_, _++_, map}
 use Prim.Native.Nat.{ℕ, _+_, _-_, _^_}
-use lib.ListN.{length, replicate, set}
+use lib.ListN.{length, take, replicate, set}
 use Rattle.hash.specs.Double.{D, emptyPool}
 use Rattle.hash.specs.declared.hasher.Hasher.{Hasher}
 use Rattle.generator.specs.Steps.{GeneratorState, encode, reseed}
 use Rattle.pools.specs.declared.Fortuna.{Fortuna}
 use Rattle.pools.specs.Schedule.{usedPools}
-use Rattle.pools.specs.State.{fresh, malformed}
+use Rattle.pools.specs.State.{fresh, poolAt, malformed}
 use Rattle.pools.specs.Calls.{Call, event, request, update, write, draw, shuffle, callNumber, step}
 use Rattle.reference.specs.Readings.{wholeBlocks, reseededState, seededState}
 
@@ -52,21 +52,27 @@ keyedUnseeded = withTimer 1 0 0 0 false
 abbrev pub EventRow : Type 0
 EventRow =
     answers fresh
-    (event 255 31 (1 ∷ []) ∷ event 256 32 [] ∷ event 255 32 [] ∷ event 255 31 [] ∷ event 0 0 (replicate 32 1) ∷ event 0 0 (replicate 33 1) ∷ [])
-    ≡ 0 ∷ 11 ∷ 12 ∷ 13 ∷ 0 ∷ 13 ∷ []
+    (event 256 31 (1 ∷ []) ∷ event 65535 31 (1 ∷ []) ∷ event 65536 32 [] ∷ event 65535 32 [] ∷ event 65535 31 [] ∷ event 0 0 (replicate 32 1) ∷ event 0 0 (replicate 33 1) ∷ [])
+    ≡ 0 ∷ 0 ∷ 11 ∷ 12 ∷ 13 ∷ 0 ∷ 13 ∷ []
 
 -- input numbers before 21
 abbrev pub EventOrderRow : Type 0
 EventOrderRow =
-    answers keyedUnseeded (event 256 0 (1 ∷ []) ∷ event 0 32 (1 ∷ []) ∷ event 0 0 [] ∷ event 0 0 (1 ∷ []) ∷ []) ≡ 11 ∷ 12 ∷ 13 ∷ 21 ∷ []
+    answers keyedUnseeded (event 65536 0 (1 ∷ []) ∷ event 0 32 (1 ∷ []) ∷ event 0 0 [] ∷ event 0 0 (1 ∷ []) ∷ []) ≡ 11 ∷ 12 ∷ 13 ∷ 21 ∷ []
 
--- 22: length + 2 + data length up to 2^61 - 1, in that pool alone; a length above that is 21
+-- the source in two bytes, least significant first, and the length
+abbrev pub HeaderRow : Type 0
+HeaderRow =
+    map (λ (source : ℕ). take 3 (poolAt (step fresh (event source 0 (1 ∷ 2 ∷ [])) .effect .next) 0 .tail)) (0 ∷ 255 ∷ 256 ∷ 900 ∷ 65535 ∷ [])
+    ≡ (0 ∷ 0 ∷ 2 ∷ []) ∷ (255 ∷ 0 ∷ 2 ∷ []) ∷ (0 ∷ 1 ∷ 2 ∷ []) ∷ (0x84 ∷ 0x03 ∷ 2 ∷ []) ∷ (255 ∷ 255 ∷ 2 ∷ []) ∷ []
+
+-- 22: length + 3 + data length up to 2^61 - 1, in that pool alone; a length above that is 21
 abbrev pub RoomRow : Type 0
 RoomRow =
     map (λ (n : ℕ). step (withFirstPool fresh (wholeBlocks n)) (event 0 0 (replicate 30 1)) .number)
     ((2 ^ 61 - 64) ∷ (2 ^ 61) ∷ [])
     ++ map (λ (n : ℕ). step (withFirstPool fresh (wholeBlocks (2 ^ 61 - 64))) (event 0 0 (replicate n 1)) .number) (31 ∷ 32 ∷ [])
-    ++ answers (withFirstPool fresh (record { chain = replicate 8 0; tail = replicate 64 0; length = 2 ^ 61 - 4 }))
+    ++ answers (withFirstPool fresh (record { chain = replicate 8 0; tail = replicate 64 0; length = 2 ^ 61 - 5 }))
     (event 0 0 (1 ∷ []) ∷ event 0 0 (1 ∷ 2 ∷ []) ∷ event 0 1 (1 ∷ 2 ∷ []) ∷ [])
     ≡ 0 ∷ 21 ∷ 0 ∷ 0 ∷ 0 ∷ 22 ∷ 0 ∷ []
 
@@ -177,6 +183,7 @@ ReseedRow = (w : GeneratorState) (s : List ℕ) → reseed w s ≡ record { key 
 pub record Boundaries : Type 0 where
   pub events : EventRow
   pub eventOrder : EventOrderRow
+  pub headers : HeaderRow
   pub room : RoomRow
   pub requests : RequestRow
   pub seeds : SeedRow

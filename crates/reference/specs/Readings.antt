@@ -45,11 +45,11 @@ seededState c =
 unfoldable pub emptiedAt : Fortuna → ℕ → ℕ
 emptiedAt s clock = step s (request clock []) .effect .emptied
 
--- source 7, bytes A1 B2: the pool gains 07 02 A1 B2
+-- source 7, bytes A1 B2: the pool gains 07 00 02 A1 B2
 abbrev pub GainRow : Type 0
 GainRow =
     let p : Hasher = poolAt (step fresh (event 7 3 (0xa1 ∷ 0xb2 ∷ [])) .effect .next) 3 in
-    (p .length ∷ take 5 (p .tail)) ≡ 4 ∷ 0x07 ∷ 0x02 ∷ 0xa1 ∷ 0xb2 ∷ 0 ∷ []
+    (p .length ∷ take 6 (p .tail)) ≡ 5 ∷ 0x07 ∷ 0x00 ∷ 0x02 ∷ 0xa1 ∷ 0xb2 ∷ 0 ∷ []
 
 -- pools emptied at reseed 2, 3, 4, 6, at 2^31 and at 2^32
 abbrev pub EmptiedRow : Type 0
@@ -70,12 +70,12 @@ DueRow =
 
 -- two events of pool 0, of 30 and n bytes of data, then a request of no bytes: its number, and the pools that it empties
 unfoldable pub filled : ℕ → List Call
-filled n = event 1 0 (replicate 30 5) ∷ event 2 0 (replicate n 6) ∷ request 0 [] ∷ []
+filled n = event 1 0 (replicate 30 5) ∷ event 900 0 (replicate n 6) ∷ request 0 [] ∷ []
 
 -- no reseed made yet: pool 0 at 63 bytes is not due (and the state unseeded), at 64 it is, at reseed 1
 abbrev pub FirstReseedRow : Type 0
 FirstReseedRow =
-    map (λ (n : ℕ). map (λ (o : Outcome Fortuna). o .number) (run (filled n)) ++ map (λ (o : Outcome Fortuna). o .effect .emptied) (run (filled n))) (29 ∷ 30 ∷ [])
+    map (λ (n : ℕ). map (λ (o : Outcome Fortuna). o .number) (run (filled n)) ++ map (λ (o : Outcome Fortuna). o .effect .emptied) (run (filled n))) (27 ∷ 28 ∷ [])
     ≡ (0 ∷ 0 ∷ 23 ∷ 0 ∷ 0 ∷ 0 ∷ []) ∷ (0 ∷ 0 ∷ 0 ∷ 0 ∷ 0 ∷ 1 ∷ []) ∷ []
 
 -- counter growth without a reseed, for n = 0, 1, 16, 17, 1,048,576

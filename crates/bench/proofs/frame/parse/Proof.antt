@@ -25,6 +25,9 @@ update-frame-requires c κs = search needs
 write-frame-requires : tie.Need-write-frame-requires
 write-frame-requires c κs = search needs
 
+wide-event-frame-requires : tie.Need-wide-event-frame-requires
+wide-event-frame-requires c κs = search needs
+
 returns-2 : tie.Need-returns-2
 returns-2 c = c .event-frame .ensures ∙ sym (frame-some _ (c .before .before .before .if1 .left) ∙ rw (c .before .match .keys1))
 
@@ -38,9 +41,12 @@ returns-5 : tie.Need-returns-5
 returns-5 c = c .write-frame .ensures ∙ sym (frame-some _ (c .before .before .before .if1 .left) ∙ rw (c .before .match .keys4))
 
 returns-6 : tie.Need-returns-6
-returns-6 c =
+returns-6 c = c .wide-event-frame .ensures ∙ sym (frame-some _ (c .before .before .before .if1 .left) ∙ rw (c .before .match .keys5))
+
+returns-7 : tie.Need-returns-7
+returns-7 c =
     let n = c .match .rest in
-    sym (frame-some _ (c .before .before .if1 .left) ∙ rw (ne-eqb _ 1 (n .0 .0 .0 .1), ne-eqb _ 2 (n .0 .0 .1), ne-eqb _ 3 (n .0 .1), ne-eqb _ 4 (n .1)))
+    sym (frame-some _ (c .before .before .if1 .left) ∙ rw (ne-eqb _ 1 (n .0 .0 .0 .0 .1), ne-eqb _ 2 (n .0 .0 .0 .1), ne-eqb _ 3 (n .0 .0 .1), ne-eqb _ 4 (n .0 .1), ne-eqb _ 5 (n .1)))
 
 pub parse-spec : {M : Type 1} → statement M
 parse-spec =
@@ -52,8 +58,10 @@ parse-spec =
     request-frame-requires
     update-frame-requires
     write-frame-requires
+    wide-event-frame-requires
     returns-2
     returns-3
     returns-4
     returns-5
-    returns-6)
+    returns-6
+    returns-7)

@@ -23,7 +23,7 @@ returns-2 : tie.Need-returns-2
 returns-2 c =
     let start = c .before .before .before .before .before in
     let a = start .args in
-    let full : length (a .text .now) ≡ 257 = search needs in
+    let full : length (a .text .now) ≡ 259 = search needs in
     finishes-some (a .state) (a .text .now) (a .held) _ (a .out .now) _ (c .line .result)
     (c .before .before .before .before .if1 .left) (omega arith) (c .before .before .held-line .ensures) (c .line .ensures)
 

@@ -3,7 +3,7 @@
 use mathlib.Core.Path.{sym, _∙_}
 use native.Mathlib.Omega.{arith}
 use borrow.Author.Needs.{needs}
-use Rattle.bench.proofs.Frames.{event-call, request-call, update-call, write-call, invalid-call}
+use Rattle.bench.proofs.Frames.{event-call, request-call, update-call, write-call, wide-event-call, invalid-call}
 use Rattle.bench.proofs.line.execute.Statement.{statement}
 use Rattle.bench.proofs.line.execute.Tie as tie
 
@@ -59,6 +59,25 @@ enum-known-frame-4 c = search needs
 
 write-line-requires : tie.Need-write-line-requires
 write-line-requires c κs = search needs
+
+enum-known-frame-5 : tie.Need-enum-known-frame-5
+enum-known-frame-5 c = search needs
+
+sub-event-line-2 : tie.Need-sub-event-line-2
+sub-event-line-2 c =
+    let call = wide-event-call _ (sym (c .before .before .before .parse .ensures) ∙ c .before .frame5 .given .1) in
+    omega (arith, call .0)
+
+part-event-line-start-2 : tie.Need-part-event-line-start-2
+part-event-line-start-2 c =
+    let call = wide-event-call _ (sym (c .before .before .before .before .parse .ensures) ∙ c .before .before .frame5 .given .1) in
+    omega (arith, call .0)
+
+part-event-line-end-2 : tie.Need-part-event-line-end-2
+part-event-line-end-2 c = search needs
+
+event-line-requires-2 : tie.Need-event-line-requires-2
+event-line-requires-2 c κs = search needs
 
 enum-told : tie.Need-enum-told
 enum-told c = search needs
@@ -118,6 +137,17 @@ same-length-10 c = search needs
 
 returns-5 : tie.Need-returns-5
 returns-5 c =
+    let b = c .before .before .before .before .before .before .before in
+    rw (wide-event-call _ (sym (b .before .before .parse .ensures) ∙ b .frame5 .given .1) .1) (c .before .before .event-line2 .ensures)
+
+same-length-11 : tie.Need-same-length-11
+same-length-11 c = search needs
+
+same-length-12 : tie.Need-same-length-12
+same-length-12 c = search needs
+
+returns-6 : tie.Need-returns-6
+returns-6 c =
     let b = c .before .before .before .before in
     rw (invalid-call _ (sym (b .before .before .parse .ensures) ∙ b .enum-told .given .1)) (c .before .before .invalid-line .ensures)
 
@@ -140,6 +170,11 @@ execute-spec =
     update-line-requires
     enum-known-frame-4
     write-line-requires
+    enum-known-frame-5
+    sub-event-line-2
+    part-event-line-start-2
+    part-event-line-end-2
+    event-line-requires-2
     enum-told
     invalid-line-requires
     same-length
@@ -156,4 +191,7 @@ execute-spec =
     returns-4
     same-length-9
     same-length-10
-    returns-5)
+    returns-5
+    same-length-11
+    same-length-12
+    returns-6)
