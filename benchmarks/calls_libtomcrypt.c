@@ -7,7 +7,8 @@ bool call_new(void) {
     return fortuna_start(&state) == CRYPT_OK;
 }
 
-/* The library picks the pool, takes 0 as the source, and puts source, length and data in as ours does. */
+/* The library picks the pool, takes 0 as the source, and puts source, length and data in, the source as one byte where
+   ours has two. */
 bool call_event(uint32_t pool, const uint8_t data[32]) {
     return state.fortuna.pool_idx == pool && fortuna_add_entropy(data, 32, &state) == CRYPT_OK;
 }

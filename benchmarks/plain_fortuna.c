@@ -194,14 +194,14 @@ static uint32_t random_data(plain_state *s, uint32_t clock, uint8_t *out, size_t
 
 uint32_t plain_event(plain_state *s, uint32_t source, uint32_t pool, const uint8_t *data, size_t length)
 {
-    if (source > 255) return 11;
+    if (source > 65535) return 11;
     if (pool >= PLAIN_POOLS) return 12;
-    if (length == 0 || length > 32) return 13;
+    if (length == 0 || length > PLAIN_DATA) return 13;
     if (malformed(s)) return 21;
-    if (s->pools[pool].length + 2 + length > max_pool_length) return 22;
-    uint8_t bytes[34] = {(uint8_t)source, (uint8_t)length};
-    memcpy(bytes + 2, data, length);
-    append(&s->pools[pool], bytes, 2 + length);
+    if (s->pools[pool].length + PLAIN_HEADER + length > max_pool_length) return 22;
+    uint8_t bytes[PLAIN_HEADER + PLAIN_DATA] = {(uint8_t)source, (uint8_t)(source >> 8), (uint8_t)length};
+    memcpy(bytes + PLAIN_HEADER, data, length);
+    append(&s->pools[pool], bytes, PLAIN_HEADER + length);
     return 0;
 }
 

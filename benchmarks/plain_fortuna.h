@@ -7,7 +7,8 @@
 #include <stddef.h>
 #include <stdint.h>
 
-enum { PLAIN_POOLS = 32, PLAIN_SEED = 64 };
+/* An event's header in its pool is the source in two bytes, least significant first, and the length in one. */
+enum { PLAIN_POOLS = 32, PLAIN_HEADER = 3, PLAIN_DATA = 32, PLAIN_SEED = 64 };
 
 /* The hash value over the whole blocks so far, the bytes after them with zeros behind, and the count of all bytes. */
 typedef struct {

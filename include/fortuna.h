@@ -21,7 +21,7 @@ extern "C" {
 
 enum {
     FORTUNA_DONE = 0,
-    /* an event: source above 255 */
+    /* an event: source above 65,535 */
     FORTUNA_BAD_SOURCE = 11,
     /* an event: pool above 31 */
     FORTUNA_BAD_POOL = 12,
@@ -44,7 +44,7 @@ enum {
        zero; counter 0 with reseeded set; reseeded clear with a last_reseed or a reseed_count that is not 0. For the
        generator alone: counter 0 with a key that is not all zero */
     FORTUNA_MALFORMED = 21,
-    /* an event: its pool's length with the 2 bytes of header and the data would pass 2^61 - 1 */
+    /* an event: its pool's length with the 3 bytes of header and the data would pass 2^61 - 1 */
     FORTUNA_POOL_FULL = 22,
     /* a request, a seed write, a draw or a shuffle of 2 numbers or more, with counter 0 and no pool reseed due. For the
        generator alone: blocks or a request with counter 0 */
@@ -165,7 +165,8 @@ fortuna_state fortuna_new(void);
 
 /* The calls below work on the state that the caller keeps at state, which no buffer may overlap. */
 
-/* The pool gains the source's byte, the length's byte and the length bytes at data. No pool is emptied.
+/* The pool gains the source in 2 bytes, least significant first, the length in 1 byte, and the length bytes at data. No
+   pool is emptied.
    FORTUNA_DONE, FORTUNA_BAD_SOURCE, FORTUNA_BAD_POOL, FORTUNA_BAD_DATA, FORTUNA_MALFORMED or FORTUNA_POOL_FULL. */
 uint32_t fortuna_event(fortuna_state *state, uint32_t source, uint32_t pool, const uint8_t *data, size_t length);
 
@@ -200,11 +201,12 @@ fortuna_draw fortuna_random_below(fortuna_state *state, uint32_t clock, uint64_t
 fortuna_answer fortuna_shuffle(fortuna_state *state, uint32_t clock, uint16_t *list, size_t length);
 
 /* Runs a log of calls from the state before anything. The log is length characters, a frame to a line, in capital
-   hexadecimal, at most 256 characters: 01 and source, pool, data for an event; 02 and clock, n for a request of n
-   bytes; 03 and clock, seed for a seed update; 04 and clock for a seed write. clock has 4 bytes and n has 2, most
-   significant first. The answers go to out, a line for each line: two decimal digits, 00 or the number of the refusal;
-   after 00 for 02, 03 and 04 a space and the pools emptied in two decimal digits, then, unless n = 0, a space and the
-   bytes in capital hexadecimal. Stores as many characters as there is room for, and returns how many. */
+   hexadecimal: 01 or 05 and source, pool, data for an event; 02 and clock, n for a request of n bytes; 03 and clock,
+   seed for a seed update; 04 and clock for a seed write. The source has 1 byte in 01, so that it is at most 255, and 2
+   bytes in 05; clock has 4 bytes and n has 2; all most significant first. A line that starts with 05 may have 258
+   characters, any other line 256. The answers go to out, a line for each line: two decimal digits, 00 or the number of
+   the refusal; after 00 for 02, 03 and 04 a space and the pools emptied in two decimal digits, then, unless n = 0, a
+   space and the bytes in capital hexadecimal. Stores as many characters as there is room for, and returns how many. */
 size_t fortuna_log(const uint8_t *log, size_t length, uint8_t *out, size_t room);
 
 #ifdef __cplusplus

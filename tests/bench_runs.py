@@ -7,7 +7,7 @@ from functools import partial
 from itertools import chain
 from pathlib import Path
 
-from frames import Noise, event, log_of, request, update
+from frames import Noise, event, log_of, request, update, wide_event
 from logs import LOGS, answers_to
 from program import Failure, compare, run, run_file, run_in_pieces
 
@@ -44,13 +44,26 @@ def long_lines():
     yield "digits, then LF", before + b"A5" * (LONG // 2) + b"\n" + after, b"00\n16\n16\n12\n"
     yield "digits, end of input", before + b"A5" * (LONG // 2), b"00\n16\n16\n"
     yield "starts like an event", before + b"010703" + b"00" * (LONG // 2) + b"\n" + after, b"00\n16\n16\n12\n"
+    yield "starts like frame 05", before + b"05000703" + b"00" * (LONG // 2) + b"\n" + after, b"00\n16\n16\n12\n"
     yield "starts like an update", update(0, bytes(64)) + b"0" * LONG + b"\n" + after, b"16\n12\n"
     yield "no digits", b"\0\xff\r " * (LONG // 4) + b"\n" + after, b"16\n12\n"
     yield "odd", b"0" * (LONG + 1) + b"\n", b"16\n"
 
 
+def longest_lines():
+    """258 characters, which only frame 05 may have, and 260; the data are too many bytes either way."""
+    for line, answer in (
+        (wide_event(900, 3, bytes(125)), b"13\n"),
+        (event(7, 3, bytes(126)), b"16\n"),
+        (wide_event(900, 3, bytes(126)), b"16\n"),
+    ):
+        title = f"{len(line)} characters, {line[:2].decode()}"
+        yield f"{title}, then LF", log_of([line, b"01"]), answer + b"16\n"
+        yield f"{title}, end of input", line, answer
+
+
 def stream_checks():
-    for title, log, answers in long_lines():
+    for title, log, answers in chain(long_lines(), longest_lines()):
         yield f"long line, {title}", log, answers, partial(run, log=log)
     yield "20000 empty lines", b"\n" * 20000, b"16\n" * 20000, partial(run, log=b"\n" * 20000)
     log = b"".join(stored(name)[0] for name in LOGS)

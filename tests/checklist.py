@@ -17,7 +17,7 @@ import sys
 import tempfile
 from pathlib import Path
 
-from frames import Noise, event, log_of, request, update, write
+from frames import HEADER, Noise, event, log_of, request, update, write
 from logbook import Event, booked, call_of, lines as lines_of
 from logs import answers_to
 from program import Failure, compare, run
@@ -81,7 +81,7 @@ def draws(answers):
 
 # ---- April: junk in place of a noise source
 
-SOURCES = (1, 2, 3)
+SOURCES = (1, 2, 900)  # the last one needs frame 05
 JUNK_SOURCE = 2
 JUNK = b"\xaa" * 32
 TURNS = 40
@@ -100,12 +100,11 @@ def april_lines(sources):
 
 
 def april_sample():
-    """Places of events in the log: pools that come due often, once or not at all; the junk source and another."""
+    """Places of events in the log: pools that come due often, once or not at all; each source."""
     lines_a_turn = 32 * len(SOURCES) + 1
     for turn in (0, 1, 6, 15, TURNS - 1):
         for pool in (0, 1, 2, 3, 4, 5, 6, 31):
-            source = JUNK_SOURCE if (turn + pool) % 2 else SOURCES[0]
-            yield turn * lines_a_turn + pool * len(SOURCES) + SOURCES.index(source)
+            yield turn * lines_a_turn + pool * len(SOURCES) + (turn + pool) % len(SOURCES)
 
 
 def with_one_changed(lines, place):
@@ -131,10 +130,11 @@ def enters(bench, lines, answers, place):
 
 
 def april(bench):
-    print(f"Source {JUNK_SOURCE} of {len(SOURCES)} sends only bytes {JUNK[:1].hex().upper()}; {TURNS} keys are drawn.")
+    junk = f"source {JUNK_SOURCE} sends only bytes {JUNK[:1].hex().upper()}"
+    print(f"Sources {', '.join(map(str, SOURCES))}; {junk}; {TURNS} keys are drawn.")
     lines = list(april_lines(SOURCES))
     answers = bench.run("april", log_of(lines))
-    events = [reply for line, reply in zip(lines, answers) if line.startswith(b"01")]
+    events = [reply for line, reply in zip(lines, answers) if call_of(line)[0] == "event"]
     require(set(events) == {b"00"}, "an event was refused")
     reseeds = [number for number, _ in draws(answers)]
     require(reseeds == [*range(1, TURNS + 1)], "a key was drawn without a pool reseed")
@@ -228,7 +228,7 @@ class Timer:
         self.held = 0
 
     def event(self, source, pool, data):
-        self.held += 2 + len(data)
+        self.held += HEADER + len(data)
 
     def reseeds(self, clock, reply, title):
         """Whether a draw made a pool reseed; it must make one exactly when due."""

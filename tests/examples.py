@@ -10,7 +10,8 @@ import logbook
 import station
 
 SEED = b"a seed from the workshop, other bytes for each digitiser".ljust(64, b"\0")
-LOG = b"010700A1B2\n02000000640010\nFF\n"
+SOURCES = (1, 2, 900)
+LOG = b"010700A1B2\n050384003C\n02000000640010\nFF\n"
 
 
 def sample(source, turn):
@@ -28,14 +29,14 @@ def lines():
     yield f"seed updated: {updated.buffer.hex()}"
     state = updated.next
     for turn in range(64):
-        for source in range(3):
+        for source in SOURCES:
             state = station.event(state, source, turn % 32, sample(source, turn)).next
     yield "192 events taken"
     first = station.request(state, 1000, bytes(32))
     yield key_line(1000, first)
     second = station.request(first.next, 1050, bytes(32))
     yield key_line(1050, second)
-    refused = station.event(second.next, 0, 32, sample(0, 0))
+    refused = station.event(second.next, SOURCES[0], 32, sample(SOURCES[0], 0))
     yield f"event for pool 32: refused, {refused.number} (no such pool)"
     slot = station.draw(refused.next, 1200, 100, 64)
     yield f"slot at 1200 ms, pools emptied {slot.emptied}: {slot.buffer}"

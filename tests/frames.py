@@ -1,5 +1,8 @@
-"""Lines for the bench (01, Bench lines), without their LF, and bytes that are the same on every run."""
+"""Lines for the bench (01, Bench lines; 02, iii), without their LF, and bytes that are the same on every run."""
 import hashlib
+
+HEADER = 3  # bytes that a pool gains before an event's data: two of the source, one of the length
+MOST_DATA = 32
 
 
 def line(frame):
@@ -12,7 +15,16 @@ def reading(clock):
 
 
 def event(source, pool, data):
-    return line(bytes([1, source, pool]) + data)
+    """Frame 01; it has one byte for the source, so above 255 frame 05."""
+    return line(bytes([1, source, pool]) + data) if source < 256 else wide_event(source, pool, data)
+
+
+def wide_event(source, pool, data):
+    """Frame 05, which takes any source."""
+    return line(b"\x05" + source.to_bytes(2, "big") + bytes([pool]) + data)
+
+
+EVENTS = (event, wide_event)  # all ways to write an event
 
 
 def request(clock, n):
@@ -49,15 +61,19 @@ class Noise:
     def below(self, n):
         return int.from_bytes(self.take(8), "big") % n
 
+    def source(self):
+        """Any source; two of three times one that frame 01 can carry."""
+        return self.below(256 if self.below(3) else 65536)
+
     def event(self, pool, length):
-        """An event of any source."""
-        return event(self.below(256), pool, self.take(length))
+        """An event of any source, by either frame where both can carry it."""
+        return EVENTS[self.below(2)](self.source(), pool, self.take(length))
 
     def filling(self, size):
-        """Events that bring an empty pool 0 to just this many bytes, in parts of up to 34."""
+        """Events that bring an empty pool 0 to just this many bytes."""
         lines = []
-        while size > 34:
-            part = min(34, size - 3)  # what is left must be an event too, and 3 bytes is the least
-            lines.append(self.event(0, part - 2))
+        while size > HEADER + MOST_DATA:
+            part = min(HEADER + MOST_DATA, size - HEADER - 1)  # what is left must be an event too, with a byte of data
+            lines.append(self.event(0, part - HEADER))
             size -= part
-        return lines + [self.event(0, size - 2)]
+        return lines + [self.event(0, size - HEADER)]

@@ -3,9 +3,9 @@
 
     tests/fuzz.py PROGRAM [--seconds S] [--seed N]
 
-Lines lean towards what is near a bound: readings 100 and 101 ms after the mark, pool 0 at 63 and 64 bytes, lines of 256
-and 258 characters, seeds of 63 to 65 bytes. At a difference the log is shortened by leaving lines out, stored, and the
-exit status is 1."""
+Lines lean towards what is near a bound: readings 100 and 101 ms after the mark, pool 0 at 63 and 64 bytes, sources 255,
+256 and 65,535, by either event frame where both can carry them, lines of 254 to 262 characters, seeds of 63 to 65
+bytes. At a difference the log is shortened by leaving lines out, stored, and the exit status is 1."""
 import argparse
 import random
 import sys
@@ -14,7 +14,7 @@ import time
 from pathlib import Path
 
 import frames
-from logbook import MAX_LINE, Logbook, answer
+from logbook import MAX_LINE, MAX_WIDE_LINE, Logbook, answer
 from logs import answers_to
 from program import Failure, compare, run
 
@@ -25,7 +25,7 @@ SHORTENING = 20  # seconds
 class Writer:
     """Writes one log. It keeps the logbook of what it wrote, so that it can aim at the bounds."""
 
-    form = frames  # what makes a call's line
+    form = frames  # what makes a call's line; its EVENTS are the ways to write an event
     lengths = ([1, 5, 40, 150, 1500], [4, 4, 8, 4, 0.5])  # of a log, with their weights
 
     def __init__(self, chance):
@@ -63,21 +63,29 @@ class Writer:
         other = self.chance.choice([0, 1, 32, 62, 63, 65, 66, 123])
         return self.one_of([*whole, self.chance.randbytes(other)], [12, 4, 1, 1, 4])
 
+    def source(self):
+        small, any_source = self.chance.randrange(256), self.chance.randrange(65536)
+        return self.chance.choice([0, 1, 255, 256, 900, 65535, small, any_source])
+
     def data(self):
-        size = self.one_of([0, 1, 2, 31, 32, 33, 125, self.chance.randrange(1, 33)], [1, 3, 2, 2, 8, 1, 0.3, 8])
+        """Up to 126 bytes, one more than an event frame has room for."""
+        longest, usual = self.chance.choice([124, 125, 126]), self.chance.randrange(1, 33)
+        size = self.one_of([0, 1, 2, 31, 32, 33, longest, usual], [1, 3, 2, 2, 8, 1, 0.6, 8])
         return self.chance.randbytes(size)
 
     # ---- right lines
 
+    def event_of(self, pool, data):
+        return self.chance.choice(self.form.EVENTS)(self.source(), pool, data)
+
     def event(self):
         pool = self.one_of([0, self.chance.randrange(6), self.chance.randrange(32), 32, 255], [10, 6, 6, 1, 0.5])
-        source = self.chance.choice([0, 1, 2, 255, self.chance.randrange(256)])
-        return self.form.event(source, pool, self.data())
+        return self.event_of(pool, self.data())
 
     def filling(self):
         """An event that brings pool 0 to 63, 64 or 65 bytes, where one can."""
-        size = self.chance.choice([63, 64, 64, 65]) - self.book.length(0) - 2
-        return self.form.event(self.chance.randrange(256), 0, self.chance.randbytes(min(max(size, 1), 32)))
+        size = self.chance.choice([63, 64, 64, 65]) - self.book.length(0) - frames.HEADER
+        return self.event_of(0, self.chance.randbytes(min(max(size, 1), frames.MOST_DATA)))
 
     def request(self):
         return self.form.request(self.reading(), self.size())
@@ -98,9 +106,11 @@ class Writer:
         bounds = b"/:@G`afg \t\r\0\x7f\x80\xb1\xff"
         return bytes([self.chance.choice([self.chance.choice(bounds), self.chance.choice(b"0123456789ABCDEF")])])
 
-    def bent(self):
-        """A right line with one thing changed: a character, a digit more or less, the case, or the first byte."""
-        line = self.right()
+    def first_byte(self):
+        return b"%02X" % self.chance.choice([*range(7), self.chance.randrange(256)])
+
+    def bent(self, line):
+        """The line with one thing changed: a character, a digit more or less, the case, or the first byte."""
         place = self.chance.randrange(len(line))
         return self.chance.choice(
             [
@@ -112,18 +122,25 @@ class Writer:
                 line + line,
                 line.lower(),
                 line + b"\r",
-                b"%02X" % self.chance.randrange(256) + line[2:],
+                self.first_byte() + line[2:],
             ]
         ).replace(b"\n", b"")
 
     def stretched(self):
         """A line about as long as a frame may be, or far longer."""
-        size = self.one_of([MAX_LINE + self.chance.randrange(-3, 4), 70000, 10**6], [20, 1, 0.2])
+        near = self.chance.randrange(MAX_LINE - 2, MAX_WIDE_LINE + 5)
+        size = self.one_of([near, 70000, 10**6], [20, 1, 0.2])
         return (self.right() + b"%02X" % self.chance.randrange(256) * (size // 2))[:size]
 
     def line(self):
-        makers = [self.right, self.bent, self.stretched, lambda: b""]
-        return self.one_of(makers, [30, 5, 1, 0.5])()
+        makers = [
+            self.right,
+            lambda: self.bent(self.right()),
+            self.stretched,
+            lambda: self.bent(self.stretched()),
+            lambda: b"",
+        ]
+        return self.one_of(makers, [30, 5, 1, 0.5, 0.5])()
 
     def output(self, line):
         """The bytes that a line gives, in hexadecimal."""

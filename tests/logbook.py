@@ -15,6 +15,8 @@ from generator import MAX_COUNT, MAX_REQUEST, block_count, double_sha256
 from sha256 import INITIAL, MAX_MESSAGE, compress
 
 POOLS = 32
+MAX_SOURCE = 65535
+HEADER = 3  # bytes that stand before an event's data
 SEED_SIZE = 64
 CLOCK = 2**32
 MAX_BELOW = 2**32
@@ -29,8 +31,8 @@ Station = namedtuple("Station", "key counter mark reseed_number reseeded pools")
 
 
 def gained(event):
-    """What the event's pool gains: source byte, length byte, data."""
-    return bytes([event.source, len(event.data)]) + event.data
+    """What the event's pool gains: the source in two bytes, least significant first, length byte, data."""
+    return event.source.to_bytes(2, "little") + bytes([len(event.data)]) + event.data
 
 
 def booked(event):
@@ -92,13 +94,13 @@ class Logbook:
     # ---- refusals: input numbers before state numbers, the lower first; 21 never arises
 
     def event_refusal(self, source, pool, data):
-        if source > 255:
+        if source > MAX_SOURCE:
             return 11
         if pool >= POOLS:
             return 12
         if not 1 <= len(data) <= 32:
             return 13
-        if self.length(pool) + 2 + len(data) > MAX_MESSAGE:
+        if self.length(pool) + HEADER + len(data) > MAX_MESSAGE:
             return 22
         return 0
 
@@ -224,21 +226,27 @@ class Logbook:
 # ---- bench lines
 
 MAX_LINE = 256
+MAX_WIDE_LINE = 258  # of a line that starts with 05
 DIGITS = frozenset(b"0123456789ABCDEF")
 
 
 def lines(stream):
-    """The lines of a stream without their LF. Of a line too long for a frame it gives a start too long as well."""
-    while line := stream.readline(MAX_LINE + 2):
+    """The lines of a stream without their LF. Of a line too long for any frame it gives a start too long as well."""
+    while line := stream.readline(MAX_WIDE_LINE + 2):
         part = line
         while part and not part.endswith(b"\n"):
             part = stream.readline(65536)
         yield line.removesuffix(b"\n")
 
 
+def limit(line):
+    """How long a line with this start may be."""
+    return MAX_WIDE_LINE if line.startswith(b"05") else MAX_LINE
+
+
 def call_of(line):
     """The name and the arguments of the call that a line asks for; None where it is no frame."""
-    if not 0 < len(line) <= MAX_LINE or len(line) % 2 or not DIGITS.issuperset(line):
+    if not 0 < len(line) <= limit(line) or len(line) % 2 or not DIGITS.issuperset(line):
         return None
     frame = bytes.fromhex(line.decode("ascii"))
     first, rest = frame[0], frame[1:]
@@ -251,6 +259,8 @@ def call_of(line):
         return "update", clock, after
     if first == 4 and len(rest) == 4:
         return "write", clock, bytes(SEED_SIZE)
+    if first == 5 and len(rest) >= 3:
+        return "event", int.from_bytes(rest[:2], "big"), rest[2], rest[3:]
     return None
 
 

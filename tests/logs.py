@@ -4,16 +4,20 @@
     tests/logs.py --write DIRECTORY      writes NAME.log and NAME.answers
     tests/logs.py --check DIRECTORY      makes them again and exits 1 where a stored file differs, and says where
 
-Nothing in a log comes from chance or from the clock, so the logs are the same wherever they are made."""
+Nothing in a log comes from chance or from the clock, so the logs are the same wherever they are made. One isn't made:
+tests/logs/archive.log is from before frame 05 (02, iii), and old logs must run unchanged."""
+import hashlib
 import io
 import sys
 from itertools import zip_longest
 from pathlib import Path
 
 import logbook
-from frames import Noise, event, log_of, request, update, write
+from frames import Noise, event, log_of, request, update, wide_event, write
 
 LAST = 2**32 - 1  # the clock's last reading
+ARCHIVE = Path(__file__).parent / "logs" / "archive.log"
+ARCHIVE_SHA256 = "338f5699ead995c09163a6ca17bee4b8412452e96967bfb8b0b09afe6bcb7ea3"
 
 
 def answers_to(log):
@@ -47,6 +51,7 @@ RIGHT = [
     request(0, 16),
     update(0, bytes(range(64))),
     write(0),
+    wide_event(900, 3, b"\xa1\xb2"),
 ]
 
 
@@ -54,13 +59,13 @@ def cut_and_lengthened():
     """Missing fields, left-over bytes and odd digits: each right line, by a digit and by a byte shorter and longer."""
     for line in RIGHT:
         yield from (line[:-1], line[:-2], line + b"0", line + b"00", line[1:], b"0" + line, line)
-    for first in (b"01", b"02", b"03", b"04"):
+    for first in (b"01", b"02", b"03", b"04", b"05"):
         for size in range(0, 17):
             yield first + b"0" * size
 
 
 def other_first_bytes():
-    for first in (0x00, 0x05, 0x06, 0x0F, 0x10, 0x11, 0x20, 0x40, 0x7F, 0x80, 0x81, 0x84, 0xFF):
+    for first in (0x00, 0x06, 0x07, 0x0F, 0x10, 0x11, 0x20, 0x40, 0x7F, 0x80, 0x81, 0x84, 0xFF):
         for line in RIGHT:
             yield b"%02X" % first + line[2:]
 
@@ -77,24 +82,30 @@ def other_characters():
 
 
 def line_lengths():
-    for size in (63, 64, 65, 127, 128, 129, 254, 255, 256, 257, 258, 259, 260, 511, 512, 513, 1023, 1024, 1025, 4096):
-        yield (b"010703" + b"A5" * size)[:size]
-        yield (b"0300000000" + b"A5" * size)[:size]
+    """A line's first two characters set its limit: 258 characters after 05, 256 after any other."""
+    for size in (63, 64, 65, 127, 128, 129, *range(254, 263), 511, 512, 513, 1023, 1024, 1025, 4096):
+        for start in (b"010703", b"010720", b"0300000000", b"05038403", b"05000720"):
+            yield (start + b"A5" * size)[:size]
+        yield from ((b"05038403" + b"A5" * size)[: size - 2] + strange for strange in (b"0g", b"g0"))
         yield (b"02" * size)[:size]
         yield b"g" * size
 
 
 def data_lengths():
-    for size in (0, 1, 2, 31, 32, 33, 34, 125):
+    """125 bytes are the most that a frame has room for, 01 in its 256 characters and 05 in its 258."""
+    for size in (0, 1, 2, 31, 32, 33, 34, 124, 125, 126):
         for pool in (1, 31, 32):
-            yield event(9, pool, bytes([0x30 + size]) * size)
+            data = bytes([0x30 + size]) * size
+            yield from (event(9, pool, data), wide_event(9, pool, data), wide_event(900, pool, data))
 
 
 def numbers():
     """Pools and sources at their bounds; 12 comes before 13."""
+    narrow, wide = (0, 1, 127, 128, 255), (256, 900, 65534, 65535)
+    senders = [(event, source) for source in narrow] + [(wide_event, source) for source in (*narrow, *wide)]
     for pool in (1, 30, 31, 32, 33, 127, 128, 254, 255):
-        for source in (0, 1, 127, 128, 255):
-            yield from (event(source, pool, b"\x5a"), event(source, pool, b""), event(source, pool, bytes(33)))
+        for make, source in senders:
+            yield from (make(source, pool, b"\x5a"), make(source, pool, b""), make(source, pool, bytes(33)))
 
 
 def seed_lengths():
@@ -115,7 +126,7 @@ def near_frames():
 
 
 def frames():
-    """Refusals before the first reseed, with pool 0 at 63 and at 64 bytes, and after it."""
+    """Refusals before the first reseed, with pool 0 at 63 bytes and then past 64, and after it."""
     noise = Noise("frames")
     lines = [*seed_lengths(), *data_lengths(), *numbers()]
     lines += [request(5, 0), request(5, 65535), write(5), *noise.filling(63)]
@@ -210,6 +221,13 @@ def reseeds():
     return log_of(lines)
 
 
+def archive():
+    """600 reseeds as before frame 05, when a pool's header had 2 bytes: the lines stay, what is drawn is new."""
+    log = ARCHIVE.read_bytes()
+    assert hashlib.sha256(log).hexdigest() == ARCHIVE_SHA256, f"{ARCHIVE} is not the log that was kept"
+    return log
+
+
 def seeds():
     """Each update's 64 bytes are the next update's seed; writes, requests and pool reseeds come between."""
     noise = Noise("seeds")
@@ -233,7 +251,7 @@ def seeds():
     return log_of(lines)
 
 
-LOGS = {make.__name__: make for make in (example, empty, no_final_newline, frames, clock, reseeds, seeds)}
+LOGS = {make.__name__: make for make in (example, empty, no_final_newline, frames, clock, reseeds, archive, seeds)}
 
 
 def files():

@@ -1,12 +1,12 @@
 #!/usr/bin/env python3
-"""01's 'Readings on the workbench', and the bounds of the refusals, asked of tests/logbook.py.
+"""01's 'Readings on the workbench', with those of 02 (iii), and the bounds of the refusals, asked of tests/logbook.py.
 
     tests/readings.py      exits 1 at the first that does not hold"""
 import hashlib
 import sys
 
 import generator
-from frames import Noise
+from frames import Noise, event, wide_event
 from logbook import Event, Logbook, booked, call_of, running
 from sha256 import finish
 
@@ -38,10 +38,15 @@ def counter_after_update():
     return book.generator.count
 
 
-def pool_after_event():
+def pool_after_event(source):
     book = Logbook()
-    book.event(7, 3, b"\xa1\xb2")
-    return book.contents(3)
+    book.event(source, 3, b"\xa1\xb2")
+    return book.contents(3).hex().upper()
+
+
+def seen(line):
+    """A line's first two characters, its length, and whether it is a frame."""
+    return line[:2], len(line), call_of(line) is not None
 
 
 def at_limit(count, n=0, size=0):
@@ -77,7 +82,8 @@ END = 2**128
 
 def readings():
     """A title, what is found, what 01 says."""
-    yield "source 7, bytes A1 B2", pool_after_event(), bytes.fromhex("0702A1B2")
+    yield "source 7, bytes A1 B2", pool_after_event(7), "070002A1B2"
+    yield "source's two bytes", [pool_after_event(n)[:4] for n in (255, 256, 65535)], ["FF00", "0001", "FFFF"]
     yield "pools emptied", [emptied_at(n) for n in (1, 2, 3, 4, 6, 2**31, 2**32)], [1, 2, 1, 3, 2, 32, 32]
     yield "100 ms over the clock's end", filled(64, 1, 4294967290).due(94), False
     yield "101 ms over the clock's end", filled(64, 1, 4294967290).due(95), True
@@ -96,12 +102,27 @@ def readings():
     yield "request, unseeded", [Logbook().request(0, bytes(n))[0] for n in (0, 1048577)], [23, 14]
     yield "unseeded, due", filled(64, count=0).write(0, bytes(64))[:2], (0, 1)
     yield "data", [Logbook().event(0, 0, bytes(n))[0] for n in (0, 1, 32, 33)], [13, 0, 0, 13]
-    yield "source, pool, data", [Logbook().event(*a, b"")[0] for a in ((256, 32), (255, 32), (255, 31))], [11, 12, 13]
-    yield "pool's end", [event_at(2**61 - 1 - left) for left in (34, 33)], [0, 22]
+    bad = ((65536, 32), (65535, 32), (65535, 31))
+    yield "source, pool, data", [Logbook().event(*a, b"")[0] for a in bad], [11, 12, 13]
+    yield "pool's end", [event_at(2**61 - 1 - left) for left in (35, 34)], [0, 22]
     yield "seed", [Logbook().write(0, bytes(n))[0] for n in (63, 64, 65)], [15, 23, 15]
     yield "refused buffer", Logbook().update(0, b"\x05" * 63), (15, 0, b"\x05" * 63)
     yield "view of a pool", all(digest_of_view(n) for n in range(200)), True
     yield "view", views(), ((77, 2**32 - 1, True), (500, 0, True), [64, 0])
+    yield from frame_readings()
+
+
+def frame_readings():
+    """The two frames of an event."""
+    data = b"\xa1\xb2"
+    calls = [call_of(line) for line in (b"010703A1B2", b"05000703A1B2", b"05038403A1B2")]
+    yield "frames 01 and 05", calls, [("event", 7, 3, data), ("event", 7, 3, data), ("event", 900, 3, data)]
+    fields = [seen(b"05000703"[:size]) for size in (6, 7, 8)]
+    yield "frame 05, fields", fields, [(b"05", 6, False), (b"05", 7, False), (b"05", 8, True)]
+    lengths = [seen(event(7, 3, bytes(n))) for n in (125, 126)]
+    yield "frame 01, length", lengths, [(b"01", 256, True), (b"01", 258, False)]
+    lengths = [seen(wide_event(7, 3, bytes(n))) for n in (125, 126)]
+    yield "frame 05, length", lengths, [(b"05", 258, True), (b"05", 260, False)]
 
 
 def main():

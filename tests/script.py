@@ -33,6 +33,9 @@ def event(source, pool, data):
     return b"event %d %d " % (source, pool) + in_hexadecimal(data)
 
 
+EVENTS = (event,)  # all ways to write an event; frames have two
+
+
 def request(clock, n):
     return b"request " + reading(clock) + b" %d" % n
 

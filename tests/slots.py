@@ -33,7 +33,9 @@ BOUNDS = (0, *sorted({2**k + beside for k in POWERS for beside in (-1, 0, 1)}), 
 TRIES = (0, 1, 2, 64, 65)
 SCARCE = ((2**31 + 1, 1), (129, 1), (129, 2), (5, 1))  # n and tries of which 33 comes often
 SIZES = (0, 1, 2, 3, 255, 256, 257)
+SOURCES = (0, 255, 256, 65535, 65536, 2**32 - 1)  # the last two give 11, which no bench line can
 MUST_OCCUR = {
+    *(("event", number) for number in (0, 11)),
     *(("draw", number) for number in (0, 23, 31, 32, 33)),
     *(("draw with a reseed", number) for number in (0, 33)),
     *(("shuffle", number) for number in (0, 23, 31)),
@@ -58,7 +60,7 @@ class Maker(Noise):
     """Noise as lines of scripts, and as lists."""
 
     def event(self, pool, length):
-        return script.event(self.below(256), pool, self.take(length))
+        return script.event(self.source(), pool, self.take(length))
 
     def one_of(self, values):
         return values[self.below(len(values))]
@@ -75,6 +77,10 @@ class Maker(Noise):
         numbers = list(self.numbers(size - 1))
         numbers.insert(self.below(size), self.one_of(numbers))
         return tuple(numbers)
+
+
+def bound_events():
+    return [script.event(source, 1, b"\x5a") for source in SOURCES]
 
 
 def bound_draws(clock):
@@ -141,8 +147,8 @@ def mixed(maker, turns):
 
 def made(title, turns):
     maker = Maker(title)
-    lines = [*unseeded(maker), *bound_draws(60), *bound_lists(maker, 100), *scarce(maker, 10**6), *timed(maker)]
-    return log_of([*lines, *mixed(maker, turns)])
+    lines = [*unseeded(maker), *bound_events(), *bound_draws(60), *bound_lists(maker, 100)]
+    return log_of([*lines, *scarce(maker, 10**6), *timed(maker), *mixed(maker, turns)])
 
 
 def long_script():
@@ -163,6 +169,9 @@ class Writer(fuzz.Writer):
 
     form = script
     lengths = ([1, 5, 40, 150], [2, 4, 8, 2])
+
+    def source(self):
+        return self.one_of([super().source(), self.chance.choice(SOURCES)], [4, 1])
 
     def numbers(self):
         size = self.one_of([*SIZES, self.chance.randrange(4, 40)], [2, 2, 4, 4, 0.2, 0.2, 0.5, 4])

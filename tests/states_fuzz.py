@@ -160,7 +160,8 @@ def any_case(r, kind):
         return Case(kind, state, any_clock(r, state), numbers=any_list(r))
     if kind == "event":
         data = r.randbytes(r.choice((1, 32, r.randrange(1, 33))))
-        return Case(kind, state, 0, r.choice((0, 255, r.randrange(256))), r.choice((0, 31, r.randrange(32))), data)
+        source = r.choice((0, 255, 256, 65535, r.randrange(65536)))
+        return Case(kind, state, 0, source, r.choice((0, 31, r.randrange(32))), data)
     sizes = (0, 1, 15, 16, 17, 32, 64, r.randrange(200))
     size = r.choice(sizes) if kind == "request" else SEED_SIZE
     return Case(kind, state, any_clock(r, state), buffer=r.randbytes(size))
@@ -170,7 +171,7 @@ def any_case(r, kind):
 
 
 def bad_source(r, case):
-    case.source = r.choice((256, 2**32 - 1, r.randrange(256, 2**32)))
+    case.source = r.choice((65536, 2**32 - 1, r.randrange(65536, 2**32)))
 
 
 def bad_pool(r, case):
@@ -264,7 +265,7 @@ def rubbish(r, case):
 
 def little_room(r, case):
     if case.pool < POOLS:
-        length = MAX_POOL - 2 - len(case.buffer) + r.choice((-1, 0, 1, 2))
+        length = MAX_POOL - 3 - len(case.buffer) + r.choice((-1, 0, 1, 2))
         case.set_pool(case.pool, pool_of(r, length))
 
 

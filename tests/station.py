@@ -5,6 +5,7 @@ A call gives its number (0 or the refusal), the pools emptied, what the buffer, 
 for a draw its value, and the next state. A pool is its running hash, tail and length, so that a state whose earlier
 bytes nobody knows will do."""
 import hashlib
+import struct
 from collections import namedtuple
 
 import generator
@@ -112,7 +113,7 @@ def counter_refusal(state, clock, growth):
 
 
 def event_refusal(state, source, pool, data):
-    if source > 255:
+    if source >= 2**16:
         return 11
     if pool >= POOLS:
         return 12
@@ -120,7 +121,7 @@ def event_refusal(state, source, pool, data):
         return 13
     if clauses(state):
         return 21
-    return 22 if state.pools[pool].length + 2 + len(data) > MAX_POOL else 0
+    return 22 if state.pools[pool].length + 3 + len(data) > MAX_POOL else 0
 
 
 def event(state, source, pool, data):
@@ -128,7 +129,7 @@ def event(state, source, pool, data):
     if refusal:
         return Outcome(refusal, 0, data, state)
     pools = list(state.pools)
-    pools[pool] = absorb(pools[pool], bytes([source, len(data)]) + data)
+    pools[pool] = absorb(pools[pool], struct.pack("<HB", source, len(data)) + data)
     return Outcome(0, 0, data, state._replace(pools=tuple(pools)))
 
 

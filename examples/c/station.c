@@ -8,6 +8,9 @@
 
 enum { SOURCES = 3, TURNS = 64, DATA = 16, POOLS = 32, SEED = 64, KEY = 32, SLOTS = 100, TRIES = 64, STATIONS = 8 };
 
+/* A source may be any number up to 65,535. */
+static const uint32_t sources[SOURCES] = {1, 2, 900};
+
 /* Stands in for the page of flash memory that keeps the seed. */
 static uint8_t flash[SEED] = "a seed from the workshop, other bytes for each digitiser";
 
@@ -71,9 +74,9 @@ static void gather_noise(fortuna_state *f)
 {
     uint8_t data[DATA];
     for (uint32_t turn = 0; turn < TURNS; turn++)
-        for (uint32_t source = 0; source < SOURCES; source++) {
-            sample(source, turn, data);
-            must("event", fortuna_event(f, source, turn % POOLS, data, sizeof data));
+        for (size_t i = 0; i < SOURCES; i++) {
+            sample(sources[i], turn, data);
+            must("event", fortuna_event(f, sources[i], turn % POOLS, data, sizeof data));
         }
     printf("%d events taken\n", SOURCES * TURNS);
 }
@@ -95,8 +98,8 @@ static void draw_key(fortuna_state *f, uint32_t clock)
 static void misplace_event(fortuna_state *f)
 {
     uint8_t data[DATA];
-    sample(0, 0, data);
-    uint32_t number = fortuna_event(f, 0, POOLS, data, sizeof data);
+    sample(sources[0], 0, data);
+    uint32_t number = fortuna_event(f, sources[0], POOLS, data, sizeof data);
     if (number != FORTUNA_DONE)
         printf("event for pool %d: refused, %u (%s)\n", POOLS, number, reason(number));
 }
@@ -125,10 +128,11 @@ static void order_stations(fortuna_state *f, uint32_t clock)
     printf("\n");
 }
 
-/* A stored log of calls, run in one call from a fresh station: an event, a request, and a line that is no frame. */
+/* A stored log of calls, run in one call from a fresh station: an event of source 7, one of source 900, a request, and
+   a line that is no frame. */
 static void run_log(void)
 {
-    static const uint8_t log[] = "010700A1B2\n02000000640010\nFF\n";
+    static const uint8_t log[] = "010700A1B2\n050384003C\n02000000640010\nFF\n";
     uint8_t answers[64];
     size_t stored = fortuna_log(log, sizeof log - 1, answers, sizeof answers);
     printf("a log's answers:\n%.*s", (int)stored, (const char *)answers);

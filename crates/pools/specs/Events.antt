@@ -18,7 +18,7 @@ maxData = 32
 unfoldable pub header : ℕ → ℕ → List ℕ
 header source n = source % 256 ∷ source / 256 ∷ n ∷ []
 
--- the header's bytes
+-- how many bytes the header has
 unfoldable pub headerLength : ℕ
 headerLength = 3
 
@@ -26,6 +26,6 @@ headerLength = 3
 unfoldable pub eventBytes : ℕ → List ℕ → List ℕ
 eventBytes source «data» = header source (length «data») ++ «data»
 
--- and how many they are for n bytes of data
+-- how many bytes the pool gains of n bytes of data
 unfoldable pub gain : ℕ → ℕ
 gain n = headerLength + n

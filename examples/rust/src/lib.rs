@@ -167,7 +167,7 @@ impl Fortuna {
         }
     }
 
-    /// A pool gains 1 to 32 bytes of noise from a source.
+    /// A pool gains 1 to 32 bytes of noise from a source, whose number is at most 65,535.
     pub fn event(&mut self, source: u32, pool: u32, data: &[u8]) -> Result<(), Refusal> {
         match unsafe { fortuna_event(&mut self.state, source, pool, data.as_ptr(), data.len()) } {
             0 => Ok(()),

@@ -3,7 +3,8 @@
 //! come out. Noise, clock and flash page are stand-ins, so that each run prints the same.
 use fortuna::{run_log, Drawn, Fortuna, Refusal};
 
-const SOURCES: u32 = 3;
+/// A source may be any number up to 65,535.
+const SOURCES: [u32; 3] = [1, 2, 900];
 const TURNS: u32 = 64;
 const POOLS: u32 = 32;
 const SLOTS: u64 = 100;
@@ -29,11 +30,11 @@ fn hexadecimal(bytes: &[u8]) -> String {
 /// Each source goes round the pools by itself.
 fn gather_noise(f: &mut Fortuna) -> Result<(), Refusal> {
     for turn in 0..TURNS {
-        for source in 0..SOURCES {
+        for source in SOURCES {
             f.event(source, turn % POOLS, &sample(source, turn))?;
         }
     }
-    println!("{} events taken", SOURCES * TURNS);
+    println!("{} events taken", SOURCES.len() as u32 * TURNS);
     Ok(())
 }
 
@@ -51,7 +52,7 @@ fn draw_key(f: &mut Fortuna, clock: u32) {
 
 /// A pool that there is not: the call says so, and the state stays as it was.
 fn misplace_event(f: &mut Fortuna) {
-    if let Err(refusal) = f.event(0, POOLS, &sample(0, 0)) {
+    if let Err(refusal) = f.event(SOURCES[0], POOLS, &sample(SOURCES[0], 0)) {
         println!("event for pool {POOLS}: {refusal}");
     }
 }
@@ -75,10 +76,12 @@ fn order_stations(f: &mut Fortuna, clock: u32) -> Result<(), Refusal> {
     Ok(())
 }
 
-/// A stored log of calls, run in one call: an event, a request, and a line that is no frame.
+/// A stored log of calls, run in one call: an event of source 7, one of source 900, a request, and
+/// a line that is no frame.
 fn replay() {
     let mut answers = [0; 64];
-    let stored = run_log(b"010700A1B2\n02000000640010\nFF\n", &mut answers);
+    let log = b"010700A1B2\n050384003C\n02000000640010\nFF\n";
+    let stored = run_log(log, &mut answers);
     print!(
         "a log's answers:\n{}",
         String::from_utf8_lossy(&answers[..stored])

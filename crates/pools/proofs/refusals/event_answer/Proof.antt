@@ -1,7 +1,10 @@
 -- `pools::refusals::event_answer` meets its contract.
 -- Assumes nothing.
+use mathlib.Core.Path.{_≡_, sym, _∙_}
+use mathlib.Core.Bool.{true, false}
 use borrow.Author.Tests.{lt-ltb, le-ltb, eq-eqb, ne-eqb}
 use Rattle.pools.specs.Events.{maxSource, poolCount, maxData, headerLength, gain}
+use Rattle.pools.specs.Pool.{full}
 use Rattle.pools.specs.Promises.{number}
 use Rattle.pools.specs.Refusals.{andThen, eventInput, eventState, eventNumber}
 use borrow.Author.Needs.{needs}
@@ -36,11 +39,17 @@ is-full-requires c κs = search needs
 
 returns-6 : tie.Need-returns-6
 unfolding number eventNumber eventInput eventState andThen maxSource poolCount maxData gain headerLength
-returns-6 c = rw (le-ltb 65535 _ (c .before .before .before .before .before .before .if1 .left), le-ltb 31 _ (c .before .before .before .before .before .if2 .left), ne-eqb _ 0 (c .before .before .before .before .if3 .left), le-ltb 32 _ (c .before .before .before .if4 .left), c .before .before .if5 .left, ← c .before .is-full .ensures, c .if6 .taken)
+returns-6 c =
+    let a = c .before .before .before .before .before .before .before .args in
+    let room : full (a .size) (gain (a .n)) ≡ true = sym (c .before .is-full .ensures) ∙ c .if6 .taken in
+    rw (le-ltb 65535 _ (c .before .before .before .before .before .before .if1 .left), le-ltb 31 _ (c .before .before .before .before .before .if2 .left), ne-eqb _ 0 (c .before .before .before .before .if3 .left), le-ltb 32 _ (c .before .before .before .if4 .left), c .before .before .if5 .left, room)
 
 returns-7 : tie.Need-returns-7
 unfolding number eventNumber eventInput eventState andThen maxSource poolCount maxData gain headerLength
-returns-7 c = rw (le-ltb 65535 _ (c .before .before .before .before .before .before .if1 .left), le-ltb 31 _ (c .before .before .before .before .before .if2 .left), ne-eqb _ 0 (c .before .before .before .before .if3 .left), le-ltb 32 _ (c .before .before .before .if4 .left), c .before .before .if5 .left, ← c .before .is-full .ensures, c .if6 .left)
+returns-7 c =
+    let a = c .before .before .before .before .before .before .before .args in
+    let room : full (a .size) (gain (a .n)) ≡ false = sym (c .before .is-full .ensures) ∙ c .if6 .left in
+    rw (le-ltb 65535 _ (c .before .before .before .before .before .before .if1 .left), le-ltb 31 _ (c .before .before .before .before .before .if2 .left), ne-eqb _ 0 (c .before .before .before .before .if3 .left), le-ltb 32 _ (c .before .before .before .if4 .left), c .before .before .if5 .left, room)
 
 pub event-answer-spec : {M : Type 1} → statement M
 event-answer-spec =
