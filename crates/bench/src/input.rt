@@ -4,11 +4,12 @@ ghost use lib.ListN.{length, take};
 ghost use Rattle.bench.specs.Input.{firstLine, session, Steps, Finishes};
 use crate::buffer::append;
 use crate::line::MAX_OUTPUT;
+use crate::line::MAX_WIDE_LINE;
 use crate::line::line;
 use pools::Fortuna;
 
 // Room for a line that is too long to be a frame of any kind.
-pub const LINE_BUFFER: usize = 259;
+pub const LINE_BUFFER: usize = MAX_WIDE_LINE + 1;
 
 // The state, how many characters of the line so far are held, how many of the chunk were used, and how many were printed.
 #[repr(C)]

@@ -18,7 +18,7 @@ use crate::print::output_line;
 use pools::Fortuna;
 
 // The most characters of a line, its line feed not counted: of one that begins with 05, and of any other.
-const MAX_WIDE_LINE: usize = 258;
+pub(crate) const MAX_WIDE_LINE: usize = 258;
 
 const MAX_OTHER_LINE: usize = 256;
 
@@ -32,7 +32,7 @@ pub struct LineOutcome {
     pub written: usize,
 }
 
-// The most characters that a line may have: its first two decide.
+// The most characters that a line may have: whether its first two are 0 (48) and 5 (53) decides.
 fn max_line(text: &[u8]) -> usize
     ensures { λ r. ⌜ r ≡ maxLine (now (text .entry)) ⌝ }
 {
