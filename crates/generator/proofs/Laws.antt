@@ -2,20 +2,22 @@
 -- Assumes nothing.
 use mathlib.Core.Path.{_≡_, refl}
 use mathlib.Core.Bool.{false}
-use mathlib.Core.List.{List}
-use Prim.Native.Nat.{ℕ, _+_, _≤_}
+use mathlib.Core.List.{List, [], _∷_}
+use Prim.Native.Nat.{ℕ, _+_, _*_, _≤_}
 use native.Mathlib.Omega.{arith}
 use lib.Dec.{eqb, ltb}
 use lib.ListN.{length}
 use borrow.Author.Tests.{le-ltb}
 use Rattle.hash.specs.Double.{maxDMessage}
 use Rattle.hash.proofs.Laws.{d-message-room}
-use Rattle.generator.specs.Counter.{maxCounter}
+use Rattle.generator.specs.Counter.{value, maxCounter}
 use Rattle.generator.specs.Steps.{GeneratorState, decode, encode, reseed, blockCount, pseudoRandomData}
 use Rattle.generator.specs.Refusals.{maxRequest, maxSeed, malformed, unseeded, spent, stateNumber, reseedNumber, outputNumber, requestNumber}
 use Rattle.generator.specs.Operations.{reseedAnswer, reseeded, requestAnswer, requested, requestBuffer}
 use Rattle.generator.specs.declared.Generator.{Generator}
+use Rattle.generator.specs.Closed.{rekeyed, closedRandomData}
 use Rattle.generator.proofs.Digits.{value-counter}
+use Rattle.generator.proofs.Steps.{random-data-closed}
 
 -- a request takes few blocks
 pub few-blocks : (n : ℕ) → n ≤ maxRequest → blockCount n ≤ 65536
@@ -77,7 +79,26 @@ pub reseed-count : (w : GeneratorState) (s : List ℕ) → reseed w s .count ≡
 unfolding reseed
 reseed-count w s = refl
 
--- 64 bytes take 4 blocks
+-- C after a request of n bytes: its blocks, and two for the next K
+pub random-data-count : (w : GeneratorState) (n : ℕ) → pseudoRandomData w n .next .count ≡ w .count + (blockCount n + 2)
+unfolding closedRandomData rekeyed
+random-data-count w n = rw (random-data-closed w n)
+
+-- 64 bytes take 4 blocks, and the 4 of a try one
 pub seed-blocks : blockCount 64 ≡ 4
 unfolding blockCount
 seed-blocks = refl
+
+pub try-blocks : blockCount 4 ≡ 1
+unfolding blockCount
+try-blocks = refl
+
+-- ---- the number that bytes stand for, least significant first
+
+pub value-none : value [] ≡ 0
+unfolding value
+value-none = refl
+
+pub value-more : (p : ℕ) (ps : List ℕ) → value (p ∷ ps) ≡ p + 256 * value ps
+unfolding value
+value-more p ps = refl

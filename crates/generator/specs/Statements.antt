@@ -1,11 +1,13 @@
 -- What is proved of the generator's definitions beside its code.
 -- Assumes nothing.
 use mathlib.Core.Path.{_≡_}
-use mathlib.Core.List.{List, []}
-use Prim.Native.Nat.{ℕ, _≤_, _<_}
-use lib.ListN.{length, getD}
+use mathlib.Core.List.{List, [], _++_}
+use Prim.Native.Nat.{ℕ, _+_, _≤_, _<_}
+use lib.ListN.{length, getD, take}
+use Rattle.laws.specs.Lists.{tabulate, joined}
+use Rattle.cipher.specs.Aes.{cipher}
 use Rattle.generator.specs.Counter.{value, littleEndian, maxCounter}
-use Rattle.generator.specs.Steps.{GeneratorState, blockData, pseudoRandomData, generateBlocks}
+use Rattle.generator.specs.Steps.{GeneratorState, blockCount, blockData, pseudoRandomData, generateBlocks}
 use Rattle.generator.specs.Closed.{closedBlockData, closedRandomData, afterBlocks}
 use Rattle.generator.specs.Operations.{number, blocksMade}
 use Rattle.generator.specs.declared.Generator.{Generator}
@@ -24,6 +26,17 @@ pub record CounterEncoding : Type 0 where
 pub record ClosedForm (w : GeneratorState) (n : ℕ) : Type 0 where
   pub blocks : blockData w n ≡ closedBlockData w n
   pub request : pseudoRandomData w n ≡ closedRandomData w n
+
+-- the trace of a request has each of its Block steps, C, C + 1, .. as 16 bytes: the bytes are the first n of those enciphered under K, and the next K
+-- is the last two enciphered
+pub record Enciphers (w : GeneratorState) (n : ℕ) : Type 0 where
+  pub shown : List (List ℕ)
+  pub kept : List (List ℕ)
+  pub trace : pseudoRandomData w n .trace ≡ shown ++ kept
+  pub steps : shown ++ kept ≡ tabulate (λ i. littleEndian 16 (w .count + i)) (blockCount n + 2)
+  pub bytes : pseudoRandomData w n .bytes ≡ take n (joined (cipher (w .key)) shown)
+  pub rekeyed : pseudoRandomData w n .next .key ≡ joined (cipher (w .key)) kept
+  pub last : length kept ≡ 2
 
 -- advancing by 0 blocks changes nothing
 pub record NoBlocks (w : GeneratorState) : Type 0 where

@@ -58,16 +58,16 @@ module _ (s : Fortuna) (source pool : ℕ) (d : List ℕ) (m : Bool) (k : ℕ) (
   -- t is the code's test for an event that is done: the pool gained, or is the one that stands there
   module _ (t : Bool) (tested : t ≡ eqb k 0) where
     abbrev Comes : Hasher → Type 0
-    Comes q = (k ≡ step s (event source pool d) .number) × (step s (event source pool d) .effect .emptied ≡ 0) × (pool % 32 < 32) × (withPool s (pool % 32) q ≡ step s (event source pool d) .effect .next)
+    Comes q = (k ≡ step s (event source pool d) .number) × (step s (event source pool d) .effect .emptied ≡ 0) × (pool % 32 < 32) × (withPool s (pool % 32) q ≡ step s (event source pool d) .effect .next) × (pool % 32 ≡ pool % 32)
 
     pub comes-gained : t ≡ true → (q : Hasher) → q ≡ absorb (poolAt s (pool % 32)) (eventBytes source d) → Comes q
     unfolding withPool
     comes-gained h q e =
         let given = gives-done s (event source pool d) k t event-number tested tt 0 _ [] h (event-effect (sym tested ∙ h) q e) .0 in
-        (given .0, sym (given .1), omega arith, given .2)
+        (given .0, sym (given .1), omega arith, given .2, refl)
 
     pub comes-kept : t ≡ false → (q : Hasher) → q ≡ poolAt s (pool % 32) → Comes q
     unfolding withPool poolAt
     comes-kept h q e =
         let given = gives-kept s (event source pool d) k t event-number tested tt h .0 in
-        (given .0, sym (given .1), omega arith, rw (e, set-getD (s .pools) (pool % 32) (record { chain = []; tail = []; length = 0 })) (given .2))
+        (given .0, sym (given .1), omega arith, rw (e, set-getD (s .pools) (pool % 32) (record { chain = []; tail = []; length = 0 })) (given .2), refl)

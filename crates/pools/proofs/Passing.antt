@@ -1,6 +1,6 @@
 -- What a draw or a shuffle that passes its one check leaves room for: so many tries, from any state.
 -- Assumes nothing.
-use mathlib.Core.Path.{_≡_, refl}
+use mathlib.Core.Path.{_≡_}
 use mathlib.Core.List.{List}
 use Prim.Native.Nat.{ℕ, suc, _-_, _*_, _≤_, _<_}
 use native.Mathlib.Omega.{arith}
@@ -8,9 +8,8 @@ use lib.Dec.{lit≤}
 use lib.ListN.{length}
 use borrow.Author.Tests.{le-ltb}
 use Rattle.generator.specs.Counter.{maxCounter}
-use Rattle.generator.specs.Steps.{blockCount}
 use Rattle.generator.specs.Refusals.{maxRequest}
-use Rattle.generator.proofs.Laws.{small-request}
+use Rattle.generator.proofs.Laws.{small-request, try-blocks}
 use Rattle.pools.specs.State.{counterOf, malformed, due}
 use Rattle.pools.specs.Refusals.{andThen, maxBelow, maxTries, maxList, spent, requestInput, outputState, requestNumber}
 use Rattle.pools.specs.Draws.{trySize}
@@ -51,10 +50,6 @@ passing-fewer s clock j k h p =
     record { formed = p .formed; keyed = p .keyed; room = le-ltb maxCounter _ (omega arith) }
 
 -- the first passes
-pub try-blocks : blockCount 4 ≡ 1
-unfolding blockCount
-try-blocks = refl
-
 pub try-passes : (s : Fortuna) (clock k : ℕ) (out : List ℕ) → Passing s clock (suc k) → length out ≡ trySize → callNumber s (request clock out) ≡ 0
 unfolding callNumber requestNumber requestInput outputState andThen trySize
 try-passes s clock k out p e =

@@ -16,11 +16,9 @@ use Rattle.hash.specs.Double.{maxPoolLength, emptyPool}
 use Rattle.hash.specs.declared.hasher.Hasher.{Hasher}
 use Rattle.hash.proofs.Laws.{pool-empty, pool-empty-length, pool-zeros}
 use Rattle.generator.specs.Counter.{maxCounter}
-use Rattle.generator.specs.Steps.{GeneratorState, decode, blockCount, pseudoRandomData}
-use Rattle.generator.specs.Closed.{rekeyed, closedRandomData}
+use Rattle.generator.specs.Steps.{GeneratorState, decode, pseudoRandomData}
 use Rattle.generator.specs.Refusals as Generator
-use Rattle.generator.proofs.Laws.{unseeded-is, decode-encode, keyed-formed}
-use Rattle.generator.proofs.Steps.{random-data-closed}
+use Rattle.generator.proofs.Laws.{unseeded-is, decode-encode, keyed-formed, random-data-count, try-blocks}
 use Rattle.slots.specs.Fair.{tryValue}
 use Rattle.pools.specs.Events.{poolCount}
 use Rattle.pools.specs.Schedule.{used}
@@ -37,7 +35,7 @@ use Rattle.pools.proofs.PoolTests.{neither, none-at, any-tabulate}
 use Rattle.pools.proofs.Serving.{reseeded-count}
 use Rattle.pools.proofs.Servables.{pools-formed, fields-formed}
 use Rattle.pools.proofs.OneReseed.{quiet-after}
-use Rattle.pools.proofs.Passing.{passing-fewer, try-blocks}
+use Rattle.pools.proofs.Passing.{passing-fewer}
 
 -- ---- the pools
 
@@ -96,11 +94,6 @@ module _ (s : Fortuna) (clock : ℕ) where
 
 -- ---- the state after the request
 
--- C after it
-made-count : (w : GeneratorState) (n : ℕ) → pseudoRandomData w n .next .count ≡ w .count + (blockCount n + 2)
-unfolding closedRandomData rekeyed
-made-count w n = rw (random-data-closed w n)
-
 -- C above 0, pools and timer as they should be
 with-formed : (q : Fortuna) (w : GeneratorState) → w .count ≤ maxCounter → (w .count ≡ 0 → ⊥) → anyPool malformedPool (q .pools) ≡ false
     → strayTimer (q .reseeded) (q .«last_reseed») (q .«reseed_count») ≡ false → malformed (withGenerator q w) ≡ false
@@ -133,7 +126,7 @@ module _ (s : Fortuna) (clock : ℕ) where
   unfolding made trySize
   made-is room =
       let held : decode (reseedIfDue s clock .generator) .count ≡ counterOf s + cond (due s clock) 1 0 = unfold counterOf in held-count s clock (omega arith) in
-      made-count (decode (reseedIfDue s clock .generator)) 4 ∙ rw (held, try-blocks)
+      random-data-count (decode (reseedIfDue s clock .generator)) 4 ∙ rw (held, try-blocks)
 
   pub passing-next : (k : ℕ) → length (s .pools) ≡ poolCount → Passing s clock (suc k) → Passing (tryAt clock s .next) clock k
   passing-next k all p =

@@ -2,7 +2,7 @@
 -- Assumes nothing.
 use mathlib.Core.Path.{_≡_}
 use mathlib.Core.List.{List}
-use Prim.Native.Nat.{ℕ, _<_}
+use Prim.Native.Nat.{ℕ, _%_, _<_}
 use Rattle.pools.specs.Effects.{withPool}
 use Rattle.pools.specs.Calls as Calls
 use Rattle.pools.specs.declared.Fortuna.{Fortuna}
@@ -44,6 +44,9 @@ abbrev pub GivesValue : Calls.Outcome Fortuna → Answer → ℕ → ℕ → For
 GivesValue o answer emptied value next =
     (number answer ≡ o .number) × (emptied ≡ o .effect .emptied) × (value ≡ o .value) × (next ≡ o .effect .next)
 
--- what an event comes to on the state s: its number, no pool emptied, and the one pool by which the next state differs from s
-abbrev pub Gains : Calls.Outcome Fortuna → Fortuna → Gain → Type 0
-Gains o s g = (number (g .answer) ≡ o .number) × (o .effect .emptied ≡ 0) × (g .place < 32) × (withPool s (g .place) (g .pool) ≡ o .effect .next)
+-- what an event comes to on the state s: its number, no pool emptied, and the one pool by which the next state differs from s, at the event's
+-- pool modulo 32; refused, the pool that stands there
+abbrev pub Gains : Calls.Outcome Fortuna → Fortuna → ℕ → Gain → Type 0
+Gains o s pool g =
+    (number (g .answer) ≡ o .number) × (o .effect .emptied ≡ 0) × (g .place < 32) × (withPool s (g .place) (g .pool) ≡ o .effect .next)
+    × (g .place ≡ pool % 32)

@@ -154,7 +154,7 @@ impl Fortuna {
     // What an event from a source into a pool comes to. Where it is refused, the pool is the one that stands at the place.
     // The pools are checked here, as in is_malformed: a call of it would copy the state.
     pub fn gain_of(self, source: u32, pool: u32, data: &[u8]) -> Gain
-        ensures { λ r. ⌜ Gains (step self (event source pool (now («data» .entry)))) self r ⌝ }
+        ensures { λ r. ⌜ Gains (step self (event source pool (now («data» .entry)))) self pool r ⌝ }
     {
         let masks = masks();
         let mut malformed = fields_malformed(

@@ -3,6 +3,7 @@
 use mathlib.Core.Path.{_≡_, ap, ap₂, sym, _∙_}
 use mathlib.Core.Logic.{⊎-elim}
 use mathlib.Core.Bool.{Bool, true, cond}
+use mathlib.Core.List.{_∷_}
 use Prim.Native.Nat.{ℕ, zero, suc, _+_, _-_, _*_, _%_, _^_, _<_, _≤_}
 use native.Mathlib.Nat.{pow-suc, mul-comm, add-comm, mul-one, not-suc-le-zero, eq-or-lt-of-le, le-of-suc-le-suc, sub-add-cancel, lt-of-lt-of-le}
 use native.Mathlib.Omega.{arith}
@@ -11,6 +12,7 @@ use lib.Dec.{eqb}
 use lib.Pow.{pow-add, pow-pos}
 use borrow.Author.Tests.{eq-eqb, ne-eqb}
 use Rattle.generator.specs.Counter.{value}
+use Rattle.generator.proofs.Laws.{value-none, value-more}
 use Rattle.slots.specs.Fair.{bitsFor, tryValue, sumBelow, strings, ways, AllStrings, Fairness, EveryPlace}
 use Rattle.slots.proofs.Sums.{sum-one, sum-ext, sum-const, sum-none, sum-swap, sum-blocks}
 use Rattle.slots.proofs.LeastBits.{bits-enough, bits-few}
@@ -41,13 +43,17 @@ count-remainder n m v h =
     (λ q _. sum-ext m (λ r. one (eqb ((q * m + r) % m) v)) (λ r. one (eqb r v)) (λ r l. rw (digits-mod q l)) ∙ count-one m v h)
     ∙ sum-const n 1 ∙ mul-one n
 
+-- the strings that begin with the byte b
+first-byte : (n b : ℕ) (t : ℕ → Bool) → strings n (λ s. t (value (b ∷ s))) ≡ strings n (λ s. t (b + 256 * value s))
+first-byte n b t = λ i. strings n (λ s. t (value-more b s i))
+
 -- the strings of n bytes are the numbers below 256 ^ n
 strings-numbers : (n : ℕ) (t : ℕ → Bool) → strings n (λ s. t (value s)) ≡ sumBelow (256 ^ n) (λ x. one (t x))
-unfolding strings value
-strings-numbers zero t = sym (sum-one (λ x. one (t x)))
+unfolding strings
+strings-numbers zero t = ap (λ (x : ℕ). one (t x)) value-none ∙ sym (sum-one (λ x. one (t x)))
 strings-numbers (suc n) t =
-    sum-ext 256 (λ b. strings n (λ s. t (b + 256 * value s))) (λ b. sumBelow (256 ^ n) (λ x. one (t (b + 256 * x))))
-    (λ b _. strings-numbers n (λ x. t (b + 256 * x)))
+    sum-ext 256 (λ b. strings n (λ s. t (value (b ∷ s)))) (λ b. sumBelow (256 ^ n) (λ x. one (t (b + 256 * x))))
+    (λ b _. first-byte n b t ∙ strings-numbers n (λ x. t (b + 256 * x)))
     ∙ sum-swap 256 (256 ^ n) (λ b x. one (t (b + 256 * x)))
     ∙ sum-ext (256 ^ n) (λ x. sumBelow 256 (λ b. one (t (b + 256 * x)))) (λ x. sumBelow 256 (λ b. one (t (x * 256 + b))))
     (λ x _. sum-ext 256 (λ b. one (t (b + 256 * x))) (λ b. one (t (x * 256 + b)))

@@ -1,15 +1,15 @@
--- What the crates above use of tries and exchanges, instead of their text.
+-- What the crates above use of tries, exchanges and shuffles by given draws, instead of their text.
 -- Assumes nothing.
-use mathlib.Core.Path.{_≡_}
-use mathlib.Core.List.{List, _++_}
-use Prim.Native.Nat.{ℕ, _^_, _≤_, _<_}
+use mathlib.Core.Path.{_≡_, refl}
+use mathlib.Core.List.{List, [], _∷_, _++_}
+use Prim.Native.Nat.{ℕ, suc, _-_, _^_, _≤_, _<_}
 use native.Mathlib.Nat.{mod-lt}
 use lib.ListN.{length, getD, set, length-set, List·getD-append}
 use lib.Pow.{pow-pos}
 use lib.Seq.{set-append-left}
 use Rattle.generator.specs.Counter.{value}
 use Rattle.slots.specs.Fair.{bitsFor, tryValue}
-use Rattle.slots.specs.Shuffle.{exchange}
+use Rattle.slots.specs.Shuffle.{exchange, shuffledFrom, shuffledBy, DrawsFor}
 use Rattle.slots.proofs.LeastBits as LeastBits
 use Rattle.slots.proofs.Rearrange as Rearrange
 
@@ -34,3 +34,25 @@ exchange-append i j xs ys hi hj =
       set-append-left xs ys i (getD xs j 0) hi,
       set-append-left (set xs i (getD xs j 0)) ys j (getD xs i 0) l,
     )
+
+-- ---- a shuffle by given draws, place by place
+
+pub draws-none : DrawsFor 0 []
+unfolding DrawsFor
+draws-none = tt
+
+pub draws-more : (p d : ℕ) (draws : List ℕ) → d ≤ suc p → DrawsFor p draws → DrawsFor (suc p) (d ∷ draws)
+unfolding DrawsFor
+draws-more p d draws h more = (h, more)
+
+pub shuffled-none : (draws list : List ℕ) → shuffledFrom 0 draws list ≡ list
+unfolding shuffledFrom
+shuffled-none draws list = refl
+
+pub shuffled-more : (p d : ℕ) (draws list : List ℕ) → shuffledFrom (suc p) (d ∷ draws) list ≡ shuffledFrom p draws (exchange (suc p) d list)
+unfolding shuffledFrom
+shuffled-more p d draws list = refl
+
+pub shuffled-whole : (draws list : List ℕ) → shuffledBy draws list ≡ shuffledFrom (length list - 1) draws list
+unfolding shuffledBy
+shuffled-whole draws list = refl

@@ -14,6 +14,7 @@ use lib.Pow.{pow-mono}
 use borrow.Author.Tests.{le-leb, lt-leb, leb-true, leb-false, ltb-true, ltb-false}
 use Rattle.laws.proofs.Cases.{by-test}
 use Rattle.generator.specs.Counter.{value}
+use Rattle.generator.proofs.Laws.{value-none, value-more}
 use Rattle.slots.specs.Fair.{leastFrom, bitsFor, LeastBitsLaw}
 
 -- what the search ends at: a place that passes, or the last; it lies within f places, and none before it passes
@@ -103,12 +104,12 @@ power-fits k h = mod-eq-of-lt (lt-of-le-of-lt (pow-mono h) (lit< tt))
 -- the number of 4 bytes a, b, c, d
 pub value-four : (s : List ℕ) (a b c d : ℕ) → length s ≡ 4 → a ≡ getD s 0 0 → b ≡ getD s 1 0 → c ≡ getD s 2 0 → d ≡ getD s 3 0
     → a + 256 * (b + 256 * (c + 256 * d)) ≡ value s
-unfolding value
 value-four [] a b c d h e f g i = absurd (omega arith)
 value-four (p ∷ []) a b c d h e f g i = absurd (omega arith)
 value-four (p ∷ q ∷ []) a b c d h e f g i = absurd (omega arith)
 value-four (p ∷ q ∷ r ∷ []) a b c d h e f g i = absurd (omega arith)
-value-four (p ∷ q ∷ r ∷ s ∷ []) a b c d h e f g i = omega arith
+value-four (p ∷ q ∷ r ∷ s ∷ []) a b c d h e f g i =
+    rw (value-more p (q ∷ r ∷ s ∷ []), value-more q (r ∷ s ∷ []), value-more r (s ∷ []), value-more s [], value-none) (omega arith)
 value-four (p ∷ q ∷ r ∷ s ∷ t ∷ u) a b c d h e f g i = absurd (omega arith)
 
 -- from k = 32 on the low bits of a number below 2^32 are the number itself

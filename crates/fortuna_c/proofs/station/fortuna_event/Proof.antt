@@ -120,8 +120,8 @@ module _ {M : Type 1} (𝓤 : URA M) (H : Heap 𝓤) (A : Atoms 𝓤) (W : Given
       qed W ((‵ (flft κ′ q′) ⊛ ‵ ftrue) ∷ ‵ Own ∷ []) ∵ nothing ! $ move ! (2 ∷ 0 ∷ []) $ fjoin ! $ owned ! u32 (Is u32) (uint-makes 𝓤 H A W w32) p _ (refl, p-fits) $ fjoin ! $
       owned ! u32 (Is u32) (uint-makes 𝓤 H A W w32) i _ (refl, i-fits) $ fjoin ! $ owned ! T.the-row (Is T.the-row) (LL.makes T.the-type T′.the-plain 𝓤 H A) h _ was $ fjoin ! $ move ! (1 ∷ 0 ∷ []) $ join ! $ frame ! $ done !
 
-  gain-said : (r : Gain) → ent 𝓤 (ensured 𝓤 H A gain-of.ended (gain-of.clauses 𝓤 H A mem run) (κ′, tt) (h, (i, (p, (s, tt)))) tt r) (fact 𝓤 (Gains O h r))
-  gain-said r = exE 𝓤 _ (λ ws. snd∗ 𝓤 (sem 𝓤 H A (lasts gain-of.ended (κ′, tt) (h, (i, (p, (s, tt)))) ws)) (fact 𝓤 (Gains O h r)))
+  gain-said : (r : Gain) → ent 𝓤 (ensured 𝓤 H A gain-of.ended (gain-of.clauses 𝓤 H A mem run) (κ′, tt) (h, (i, (p, (s, tt)))) tt r) (fact 𝓤 (Gains O h p r))
+  gain-said r = exE 𝓤 _ (λ ws. snd∗ 𝓤 (sem 𝓤 H A (lasts gain-of.ended (κ′, tt) (h, (i, (p, (s, tt)))) ws)) (fact 𝓤 (Gains O h p r)))
 
   gain-is : (r : Gain) (u : Val) → Is Y.the-row r (u ∷ []) → Is Y.the-row r (LL.vals Y.the-type Y′.the-laws r)
   gain-is r u is = LL.owes Y.the-type Y′.the-laws r (LL.owed Y.the-type Y′.the-laws r _ is)
@@ -160,7 +160,7 @@ module _ {M : Type 1} (𝓤 : URA M) (H : Heap 𝓤) (A : Atoms 𝓤) (W : Given
         shut ! tt h was b o $
         move ! (3 ∷ 4 ∷ []) $ use2 W (raw (Gained 𝓤 H A mem run .pre to-gain)) (goes-gain was) $
         calls-at ! fm (Gained 𝓤 H A mem run) known-gain to-gain (and-then ! (load ! (from ! (stop !)) (look ! 12 refl)) (and-then ! (load ! (from ! (stop !)) (look ! 18 refl)) (and-then ! (load ! (from ! (stop !)) (look ! 16 refl)) (and-then ! (load ! (from ! (stop !)) (look ! 14 refl)) (no-more !))))) (λ u₁. use1 W (later (some (λ (r : Gain). ((‵ (flft κ′ q′) ⊛ ‵ ftrue) ⊛ ‵ (Y.the-row .own r (u₁ ∷ []))) ⊛ raw (ensured 𝓤 H A gain-of.ended (gain-of.clauses 𝓤 H A mem run) (κ′, tt) (h, (i, (p, (s, tt)))) tt r)))) (id⊢ 𝓤 _) $ await ! tt $ pick ! (λ r. split ! $
-        move ! (1 ∷ 0 ∷ []) $ use1 W (raw (fact 𝓤 (Gains O h r))) (gain-said r) $ heard ! (Gains O h r) (λ e. split ! $
+        move ! (1 ∷ 0 ∷ []) $ use1 W (raw (fact 𝓤 (Gains O h p r))) (gain-said r) $ heard ! (Gains O h p r) (λ e. split ! $
         move ! (1 ∷ []) $ facts ! Y.the-row (Is Y.the-row) (shows 𝓤 H A Y.the-row) r (u₁ ∷ []) (λ is. land ! (from ! (stop !)) (init ! 10 refl (LL.lawful Y.the-type Y′.the-laws 𝓤 H A W .typed r _ is .0)) $
         rewrite ! 10 (λ (z : Val). ‵ (fat fullShare Y′.mir l₆ 0 z)) (ap only (LL.tells Y.the-type Y′.the-laws r (u₁ ∷ []) is)) refl $
         assigns ! (addr ! (from ! (hop ! (look ! 20 refl) (stop !)))) (from ! (stop !)) (init ! 6 refl (tt, tt)) $
