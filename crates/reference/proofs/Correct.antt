@@ -7,6 +7,7 @@ use Rattle.reference.proofs.Agreement.{run-is-steps, agrees}
 use Rattle.reference.proofs.Provenance as Events
 use Rattle.reference.proofs.Timer.{elapsed-law, timer-step}
 use Rattle.reference.proofs.Counters.{no-repeat}
+use Rattle.reference.proofs.Counting.{counted}
 
 pub run-correct : (calls : List Call) → RunCorrect calls
 run-correct calls =
@@ -15,6 +16,7 @@ run-correct calls =
       agreement = agrees calls;
       provenance = Events.provenance calls;
       clock = elapsed-law;
-      timer = timer-step calls;
+      timer = λ before c later _. timer-step before c;
       counters = no-repeat calls;
+      counted = counted calls;
     }

@@ -123,7 +123,7 @@ run-rises (c ∷ calls) place b s =
 
 -- ---- the station's are the model's
 
-blocks-are : (calls : List Call) → counterBlocks calls ≡ joined (λ (o : Outcome Reference). o .effect .trace) (referenceRun calls)
+pub blocks-are : (calls : List Call) → counterBlocks calls ≡ joined (λ (o : Outcome Reference). o .effect .trace) (referenceRun calls)
 unfolding counterBlocks concreteOutcome
 blocks-are calls =
     ap (joined (λ (o : Outcome Fortuna). o .effect .trace)) (agrees calls .outcomes)

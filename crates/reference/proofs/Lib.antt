@@ -10,6 +10,7 @@ pub mod Draws
 pub mod Agreement
 pub mod Timer
 pub mod Counters
+pub mod Counting
 pub mod Advances
 pub mod Places
 pub mod Uses
@@ -18,5 +19,6 @@ pub mod Taken
 pub mod Keys
 pub mod Provenance
 pub mod Correct
+pub mod Computing
 pub mod Readings
 pub mod Boundaries

@@ -2,9 +2,10 @@
 -- Assumes nothing.
 use mathlib.Core.Path.{_≡_, refl, sym, ap, subst, subst₂, _∙_}
 use mathlib.Core.Logic.{_↔_}
-use mathlib.Core.Bool.{false, true}
-use mathlib.Core.List.{List, _∷_, _++_}
-use Prim.Native.Nat.{ℕ, _+_, _*_, _/_, _^_, _≤_, _<_}
+use mathlib.Core.Bool.{Bool, false, true, cond, _&&_}
+use mathlib.Core.List.{List, [], _∷_, _++_, append-nil}
+use Prim.Native.Nat.{ℕ, suc, _+_, _*_, _/_, _^_, _≤_, _<_}
+use lib.Dec.{ltb, eqb}
 use lib.ListN.{length}
 use Rattle.generator.specs.Steps.{decode, encode, reseed}
 use Rattle.generator.specs.declared.Generator.{Generator}
@@ -15,14 +16,15 @@ use Rattle.pools.specs.Effects.{nextReseed, digests, withGenerator, poolReseed,
 use Rattle.pools.specs.Calls.{Call, event, request, update, write, draw, shuffle, readingOf, callNumber, step, stateAfter}
 use Rattle.reference.specs.Reference.{Accepted, dueAt, scheduledReseed, scheduled, referenceNumber, referenceAfter}
 use Rattle.reference.specs.Timer.{reseedsAfter}
-use Rattle.reference.specs.Provenance.{Piece, pieceOf, dueFor, traced, Faithful, atReseed, madeFrom, TakenFrom, reseededBy, EntersKey, EntersAt, EventEnters, NoEvent, OthersNever, Provenance}
+use Rattle.reference.specs.Provenance.{Traced, tracedFresh, nextUses, tracedReseed, tracedAccepted, tracedStep, tracedFrom, traced}
+use Rattle.reference.specs.Provenance.{Piece, pieceOf, dueFor, Faithful, atReseed, madeFrom, TakenFrom, reseededBy, EntersKey, EntersAt, EventEnters, NoEvent, OthersNever, Provenance}
 use Rattle.pools.proofs.Acceptance.{event-passed}
 use Rattle.reference.proofs.Agreement.{number-agrees, sound-after, agrees}
 use Rattle.reference.proofs.Advances.{reseeds-after}
 use Rattle.reference.proofs.Places.{none-at, event-listed, event-alone}
 use Rattle.reference.proofs.Uses.{entering-booked, booked-enters}
 use Rattle.reference.proofs.Concrete.{due-concrete}
-use Rattle.reference.proofs.Timer.{due-parts}
+use Rattle.reference.proofs.Timer.{due-parts, step-emptied}
 use Rattle.reference.proofs.Keys.{takes}
 use Rattle.reference.proofs.Tracing.{Tied, tied-string, tied-digests, run-tied, run-state}
 
@@ -43,6 +45,41 @@ faithful calls =
   where
     t : Tied (traced calls) (referenceAfter calls)
     t = run-tied calls
+
+-- ---- the uses grow by those of a pool reseed, and by nothing else
+
+step-uses :
+    (place : ℕ) (t : Traced) (c : Call) →
+    tracedStep place t c .uses ≡ t .uses ++ cond (eqb (callNumber (t .state) c) 0 && dueFor (t .state) c) (nextUses t) []
+unfolding tracedStep
+step-uses place t c = go (eqb (callNumber (t .state) c) 0)
+  where
+    told : (d : Bool) → cond d (tracedReseed t) t .uses ≡ t .uses ++ cond d (nextUses t) []
+    told true = unfold tracedReseed in refl
+    told false = sym (append-nil (t .uses))
+
+    go : (a : Bool) → cond a (tracedAccepted place t c) t .uses ≡ t .uses ++ cond (a && dueFor (t .state) c) (nextUses t) []
+    go true = unfold tracedAccepted in told (dueFor (t .state) c)
+    go false = sym (append-nil (t .uses))
+
+grows-from :
+    (before : List Call) (c : Call) (place : ℕ) (t : Traced) →
+    tracedFrom place t (before ++ (c ∷ [])) .uses
+    ≡ tracedFrom place t before .uses
+    ++ cond (eqb (callNumber (tracedFrom place t before .state) c) 0 && dueFor (tracedFrom place t before .state) c) (nextUses (tracedFrom place t before)) []
+unfolding tracedFrom
+grows-from [] c place t = step-uses place t c
+grows-from (b ∷ before) c place t = grows-from before c (suc place) (tracedStep place t b)
+
+uses-grow :
+    (calls : List Call) (c : Call) →
+    traced (calls ++ (c ∷ [])) .uses
+    ≡ traced calls .uses ++ cond (ltb 0 (step (stateAfter calls) c .effect .emptied)) (nextUses (traced calls)) []
+unfolding traced
+uses-grow calls c =
+    grows-from calls c 0 tracedFresh
+    ∙ ap (λ (made : Bool). traced calls .uses ++ cond made (nextUses (traced calls)) [])
+    (ap (λ (s : Fortuna). eqb (callNumber s c) 0 && dueFor s c) (run-state calls) ∙ sym (step-emptied (stateAfter calls) c))
 
 -- ---- what is used enters the key
 
@@ -78,7 +115,7 @@ key-taken calls c e d =
     (takes b (sound-after calls) c (sym (same-number calls c) ∙ e) (p .0) due-now))
 
 pub enters-key : (calls : List Call) (c : Call) → EntersKey calls c
-enters-key calls c = record { key = reseed-key calls c; taken = key-taken calls c }
+enters-key calls c = record { grows = uses-grow calls c; key = reseed-key calls c; taken = key-taken calls c }
 
 -- ---- each call of a list
 
@@ -152,7 +189,7 @@ provenance calls =
     record {
       uses = run-tied calls .tags .uses;
       faithful = faithful calls;
-      key = enters-key calls;
+      key = λ before c later _. enters-key before c;
       events = λ before source pool content later _. event-enters before source pool content later;
       others = λ before c later _. others-never before c later;
     }

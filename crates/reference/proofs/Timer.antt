@@ -1,4 +1,4 @@
--- Whatever call comes next makes a pool reseed exactly when due, and only that moves the mark.
+-- Each call makes a pool reseed exactly when due, and only that moves the mark.
 -- Assumes nothing.
 use mathlib.Core.Path.{_≡_, refl, sym, ap, _∙_}
 use mathlib.Core.Bool.{Bool, true, false, cond, not, _&&_, _||_, true≢false}
@@ -202,7 +202,7 @@ step-not-refused : (s : Fortuna) (c : Call) → (step s c .number ≡ 0) ⊎ (st
 unfolding step outcome
 step-not-refused s c n = not-refused (callNumber s c) (callFound s c) (number-small s c) n
 
-step-emptied : (s : Fortuna) (c : Call) → ltb 0 (step s c .effect .emptied) ≡ (eqb (callNumber s c) 0 && dueFor s c)
+pub step-emptied : (s : Fortuna) (c : Call) → ltb 0 (step s c .effect .emptied) ≡ (eqb (callNumber s c) 0 && dueFor s c)
 unfolding step outcome
 step-emptied s c = outcome-emptied (callNumber s c) (inputBuffer c) s (callEffect s c) (dueFor s c) (effect-emptied s c)
 

@@ -2,17 +2,21 @@
 -- first refused value, the order of the numbers, what a refused call leaves, and each clause of 21 with a well-formed neighbour.
 -- Assumes nothing.
 use mathlib.Core.Path.{_≡_}
-use mathlib.Core.Bool.{Bool, true, false}
+use mathlib.Core.Bool.{Bool, true, false, cond}
+use lib.Dec.{eqb}
 use mathlib.Core.List.{List, [], _∷_, _++_, map}
 use Prim.Native.Nat.{ℕ, _+_, _-_, _^_}
-use lib.ListN.{length, take, replicate, set}
+use lib.ListN.{length, getD, take, replicate, set}
+use Rattle.laws.specs.Lists.{tabulate}
 use Rattle.hash.specs.Double.{D, emptyPool}
 use Rattle.hash.specs.declared.hasher.Hasher.{Hasher}
 use Rattle.generator.specs.Steps.{GeneratorState, encode, reseed}
 use Rattle.pools.specs.declared.Fortuna.{Fortuna}
 use Rattle.pools.specs.Schedule.{usedPools}
-use Rattle.pools.specs.State.{fresh, poolAt, malformed}
-use Rattle.pools.specs.Calls.{Call, event, request, update, write, draw, shuffle, callNumber, step}
+use Rattle.pools.specs.Effects.{Effect}
+use Rattle.pools.specs.Draws.{Drawn, tries, shuffled}
+use Rattle.pools.specs.State.{fresh, poolAt, counterOf, malformed}
+use Rattle.pools.specs.Calls.{Call, event, request, update, write, draw, shuffle, callNumber, Outcome, step}
 use Rattle.reference.specs.Readings.{wholeBlocks, reseededState, seededState}
 
 -- the number that a state answers a call with
@@ -52,7 +56,8 @@ keyedUnseeded = withTimer 1 0 0 0 false
 abbrev pub EventRow : Type 0
 EventRow =
     answers fresh
-    (event 256 31 (1 ∷ []) ∷ event 65535 31 (1 ∷ []) ∷ event 65536 32 [] ∷ event 65535 32 [] ∷ event 65535 31 [] ∷ event 0 0 (replicate 32 1) ∷ event 0 0 (replicate 33 1) ∷ [])
+    (event 256 31 (1 ∷ []) ∷ event 65535 31 (1 ∷ []) ∷ event 65536 32 [] ∷ event 65535 32 [] ∷ event 65535 31 []
+    ∷ event 0 0 (replicate 32 1) ∷ event 0 0 (replicate 33 1) ∷ [])
     ≡ 0 ∷ 0 ∷ 11 ∷ 12 ∷ 13 ∷ 0 ∷ 13 ∷ []
 
 -- input numbers before 21
@@ -136,6 +141,8 @@ RefusedRow =
     × (step fresh (update 0 (3 ∷ [])) .effect .buffer ≡ 3 ∷ [])
     × (step fresh (write 0 (4 ∷ [])) .effect .buffer ≡ 4 ∷ [])
     × (step fresh (write 0 (4 ∷ [])) .effect .next ≡ fresh)
+    × (step fresh (draw 0 6 1) .value ≡ 0)
+    × (step fresh (shuffle 0 (5 ∷ 6 ∷ [])) .effect .buffer ≡ 5 ∷ 6 ∷ [])
 
 -- 21, the clauses on a pool: too long; bytes after the tail; below 64 bytes with another running hash
 abbrev pub PoolClausesRow : Type 0
@@ -179,6 +186,50 @@ UsedRow = usedPools 6 ≡ 0 ∷ 1 ∷ []
 abbrev pub ReseedRow : Type 0
 ReseedRow = (w : GeneratorState) (s : List ℕ) → reseed w s ≡ record { key = D (w .key ++ s); count = w .count + 1 }
 
+-- 14: whatever the state, 1,048,577 bytes; 1,048,576 are accepted
+abbrev pub RequestSizeRow : Type 0
+RequestSizeRow =
+    ((s : Fortuna) (clock : ℕ) (out : List ℕ) → length out ≡ 1048577 → step s (request clock out) .number ≡ 14)
+    × ((out : List ℕ) → length out ≡ 1048576 → step (seededState 1) (request 0 out) .number ≡ 0)
+
+-- 31: 256 numbers are accepted, 257 are not
+abbrev pub ListSizeRow : Type 0
+ListSizeRow = refusals (seededState 1) (shuffle 0 (tabulate (λ (i : ℕ). i) 256) ∷ shuffle 0 (tabulate (λ (i : ℕ). i) 257) ∷ []) ≡ 0 ∷ 31 ∷ []
+
+-- the rule of draws on given bytes: server i answers with the i-th string, and the first empties a pool
+unfoldable pub strings4 : List (List ℕ)
+strings4 = (0xff ∷ 0 ∷ 0 ∷ 0 ∷ []) ∷ (0x0b ∷ 0xff ∷ 0xff ∷ 0xff ∷ []) ∷ (4 ∷ 0 ∷ 0 ∷ 0 ∷ []) ∷ (1 ∷ 0 ∷ 0 ∷ 0 ∷ []) ∷ (0 ∷ 0 ∷ 0 ∷ 0 ∷ []) ∷ []
+
+unfoldable pub given : ℕ → Effect ℕ
+given i = record { emptied = cond (eqb i 0) 1 0; buffer = getD strings4 i []; next = i + 1; trace = [] }
+
+-- below 6 the low three bits of the strings are 7, 3, 4: with one try there is no value, with more the second try ends them
+abbrev pub TriesRow : Type 0
+TriesRow =
+    map (λ (d : ℕ). let o : Drawn ℕ = tries given 6 d 0 in o .value ∷ o .effect .emptied ∷ o .effect .next ∷ []) (1 ∷ 2 ∷ 64 ∷ [])
+    ≡ (0 ∷ 1 ∷ 1 ∷ []) ∷ (3 ∷ 1 ∷ 2 ∷ []) ∷ (3 ∷ 1 ∷ 2 ∷ []) ∷ []
+
+abbrev pub FoundRow : Type 0
+FoundRow = map (λ (d : ℕ). tries given 6 d 0 .found) (1 ∷ 2 ∷ []) ≡ false ∷ true ∷ []
+
+-- four entries: place 3 below 4 draws 3 (string 0), place 2 below 3 draws 0 at its second try (strings 1, 2), place 1 below 2 draws 1 (string 3)
+abbrev pub OrderRow : Type 0
+OrderRow =
+    (shuffled given (10 ∷ 11 ∷ 12 ∷ 13 ∷ []) 0 .effect .buffer ≡ 12 ∷ 11 ∷ 10 ∷ 13 ∷ [])
+    × (shuffled given (10 ∷ 11 ∷ 12 ∷ 13 ∷ []) 0 .effect .next ≡ 4)
+
+-- the reseed number is kept modulo 2^32
+abbrev pub KeptNumberRow : Type 0
+KeptNumberRow =
+    map (λ (n : ℕ). step (reseededState 1 n 0) (request 200 []) .effect .next .«reseed_count») (5 ∷ (2 ^ 31 - 1) ∷ (2 ^ 32 - 1) ∷ [])
+    ≡ 6 ∷ (2 ^ 31) ∷ 0 ∷ []
+
+-- 21 before 24: the flag clear with a mark, and C at its end
+abbrev pub SpentOrderRow : Type 0
+SpentOrderRow =
+    refusals (withTimer 1 (2 ^ 128 - 1) 5 0 false)
+    (request 0 [] ∷ update 0 (replicate 64 1) ∷ write 0 (replicate 64 1) ∷ draw 0 1 1 ∷ shuffle 0 (5 ∷ 6 ∷ []) ∷ []) ≡ replicate 5 21
+
 -- the rows together
 pub record Boundaries : Type 0 where
   pub events : EventRow
@@ -186,13 +237,20 @@ pub record Boundaries : Type 0 where
   pub headers : HeaderRow
   pub room : RoomRow
   pub requests : RequestRow
+  pub requestSizes : RequestSizeRow
+  pub spentOrder : SpentOrderRow
   pub seeds : SeedRow
   pub seedRoom : SeedRoomRow
   pub draws : DrawRow
   pub shuffles : ShuffleRow
+  pub listSizes : ListSizeRow
+  pub tries : TriesRow
+  pub found : FoundRow
+  pub order : OrderRow
   pub refused : RefusedRow
   pub poolClauses : PoolClausesRow
   pub lastPool : LastPoolRow
   pub timerClauses : TimerClausesRow
   pub usedBySix : UsedRow
+  pub keptNumber : KeptNumberRow
   pub generatorReseed : ReseedRow

@@ -1,12 +1,13 @@
 -- Demand 3, whole: one claim about a list of events, requests with a reading, seed updates, seed writes, draws and shuffles, in any
 -- order, with any arguments, from a fresh start. It has no hypothesis.
 -- Assumes nothing.
-use mathlib.Core.List.{List}
+use mathlib.Core.Path.{_≡_}
+use mathlib.Core.List.{List, _∷_, _++_}
 use Rattle.pools.specs.Calls.{Call}
 use Rattle.reference.specs.Agreement.{RunIsSteps, Agrees}
 use Rattle.reference.specs.Provenance.{Provenance}
 use Rattle.reference.specs.Timer.{ElapsedLaw, TimerStep}
-use Rattle.reference.specs.Counters.{NoRepeat, counterBlocks}
+use Rattle.reference.specs.Counters.{NoRepeat, counterBlocks, Counted}
 
 pub record RunCorrect (calls : List Call) : Type 0 where
   -- the run is its calls' steps, one after the other
@@ -15,8 +16,9 @@ pub record RunCorrect (calls : List Call) : Type 0 where
   pub agreement : Agrees calls
   -- an accepted event enters the key at the reseed that it is booked for and at no other, in arrival order
   pub provenance : Provenance calls
-  -- only a pool reseed moves the timer, and whatever call comes next makes one exactly when due
+  -- only a pool reseed moves the timer, and each call of the list makes one exactly when due
   pub clock : ElapsedLaw
-  pub timer : (next : Call) → TimerStep calls next
-  -- no counter block is enciphered twice
+  pub timer : (before : List Call) (c : Call) (later : List Call) → before ++ (c ∷ later) ≡ calls → TimerStep before c
+  -- no counter block is enciphered twice, and none is left out
   pub counters : NoRepeat (counterBlocks calls)
+  pub counted : Counted calls

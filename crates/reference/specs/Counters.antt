@@ -1,12 +1,16 @@
 -- Demand 3, counters: no counter block is enciphered twice in a run. The trace has every Block step: output, key blocks, seed calls.
 -- Assumes nothing.
 use mathlib.Core.Path.{_≡_}
-use mathlib.Core.List.{List, []}
-use Prim.Native.Nat.{ℕ, _<_}
+use mathlib.Core.Bool.{Bool, true, false, cond, _&&_}
+use mathlib.Core.List.{List, [], _∷_}
+use Prim.Native.Nat.{ℕ, _+_, _<_}
+use lib.Dec.{eqb}
 use lib.ListN.{length, getD}
 use Rattle.laws.specs.Lists.{joined}
 use Rattle.pools.specs.declared.Fortuna.{Fortuna}
-use Rattle.pools.specs.Calls.{Call, Outcome, run}
+use Rattle.pools.specs.Calls.{Call, event, request, update, write, draw, shuffle, Outcome, run, stateAfter}
+use Rattle.pools.specs.State.{counterOf}
+use Rattle.reference.specs.Timer.{reseedsAfter}
 
 -- no element stands at two places
 abbrev pub NoRepeat : List (List ℕ) → Type 0
@@ -15,3 +19,21 @@ NoRepeat l = (i j : ℕ) → i < j → j < length l → getD l i [] ≡ getD l j
 -- the counter blocks of a run, in the order of its Block steps
 unfoldable pub counterBlocks : List Call → List (List ℕ)
 counterBlocks calls = joined (λ (o : Outcome Fortuna). o .effect .trace) (run calls)
+
+-- the accepted updates of a run, each of which reseeds the generator with its seed
+unfoldable pub isUpdate : Call → Bool
+isUpdate (event source pool content) = false
+isUpdate (request clock buffer) = false
+isUpdate (update clock seed) = true
+isUpdate (write clock seed) = false
+isUpdate (draw clock n d) = false
+isUpdate (shuffle clock list) = false
+
+unfoldable pub seedsIn : {S : Type 0} → List Call → List (Outcome S) → ℕ
+seedsIn [] os = 0
+seedsIn (c ∷ cs) [] = 0
+seedsIn (c ∷ cs) (o ∷ os) = cond (isUpdate c && eqb (o .number) 0) 1 0 + seedsIn cs os
+
+-- the trace is whole: C, which starts at 0, counts each of its blocks, each pool reseed and each seed
+abbrev pub Counted : List Call → Type 0
+Counted calls = counterOf (stateAfter calls) ≡ length (counterBlocks calls) + (reseedsAfter calls + seedsIn calls (run calls))

@@ -6,7 +6,7 @@ use mathlib.Core.Bool.{Bool, true, cond, _&&_}
 use mathlib.Core.Logic.{_↔_}
 use mathlib.Core.List.{List, [], _∷_, _++_, map, List·Memᴰ}
 use Prim.Native.Nat.{ℕ, zero, suc, _+_, _*_, _/_, _^_, _≤_, _<_}
-use lib.Dec.{eqb}
+use lib.Dec.{ltb, eqb}
 use lib.ListN.{length}
 use Rattle.laws.specs.Lists.{joined}
 use Rattle.hash.specs.Double.{D, poolOf}
@@ -146,8 +146,12 @@ pub record TakenFrom (made : Drawn GeneratorState) (o : Outcome Fortuna) : Type 
   pub bytes : o .effect .buffer ≡ made .effect .buffer
   pub next : o .effect .next .generator ≡ encode (made .effect .next)
 
--- what is used enters the key, and a call that makes a pool reseed takes its answer and its next K and C from that key
+-- the call c after these: where it makes a pool reseed, the uses grow by that reseed's, whose strings are the ones hashed into the key,
+-- and its answer and its next K and C come from that key; where it makes none, the uses stay
 pub record EntersKey (calls : List Call) (c : Call) : Type 0 where
+  pub grows :
+      traced (calls ++ (c ∷ [])) .uses
+      ≡ traced calls .uses ++ cond (ltb 0 (step (stateAfter calls) c .effect .emptied)) (nextUses (traced calls)) []
   pub key : poolReseed (atReseed (stateAfter calls) c) (readingOf c) .generator ≡ reseededBy calls c
   pub taken :
       callNumber (stateAfter calls) c ≡ 0 → dueFor (stateAfter calls) c ≡ true →
@@ -206,8 +210,8 @@ pub record Provenance (calls : List Call) : Type 0 where
   -- what each pool gave to each reseed is what was booked for it, in arrival order
   pub uses : traced calls .uses ≡ scheduledUses (referenceAfter calls .events) (referenceAfter calls .reseeds)
   pub faithful : Faithful calls
-  pub key : (c : Call) → EntersKey calls c
   -- each call of the list, by where it stands
+  pub key : (before : List Call) (c : Call) (later : List Call) → before ++ (c ∷ later) ≡ calls → EntersKey before c
   pub events :
       (before : List Call) (source pool : ℕ) (content : List ℕ) (later : List Call) →
       before ++ (event source pool content ∷ later) ≡ calls → EventEnters before source pool content later

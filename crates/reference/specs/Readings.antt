@@ -75,7 +75,9 @@ filled n = event 1 0 (replicate 30 5) ∷ event 900 0 (replicate n 6) ∷ reques
 -- no reseed made yet: pool 0 at 63 bytes is not due (and the state unseeded), at 64 it is, at reseed 1
 abbrev pub FirstReseedRow : Type 0
 FirstReseedRow =
-    map (λ (n : ℕ). map (λ (o : Outcome Fortuna). o .number) (run (filled n)) ++ map (λ (o : Outcome Fortuna). o .effect .emptied) (run (filled n))) (27 ∷ 28 ∷ [])
+    map
+    (λ (n : ℕ). map (λ (o : Outcome Fortuna). o .number) (run (filled n)) ++ map (λ (o : Outcome Fortuna). o .effect .emptied) (run (filled n)))
+    (27 ∷ 28 ∷ [])
     ≡ (0 ∷ 0 ∷ 23 ∷ 0 ∷ 0 ∷ 0 ∷ []) ∷ (0 ∷ 0 ∷ 0 ∷ 0 ∷ 0 ∷ 1 ∷ []) ∷ []
 
 -- counter growth without a reseed, for n = 0, 1, 16, 17, 1,048,576

@@ -37,7 +37,7 @@ Later mark e reading = (e < 2 ^ 32) × ((mark + e) % 2 ^ 32 ≡ reading % 2 ^ 32
 abbrev pub ElapsedLaw : Type 0
 ElapsedLaw = (reading mark : ℕ) → Later mark (elapsed reading mark) reading
 
--- whatever call comes next
+-- the call c after these
 pub record TimerStep (calls : List Call) (c : Call) : Type 0 where
   -- it empties pools exactly if it is not refused (33 comes after its tries), makes a request, pool 0 holds 64 bytes or more, and no
   -- reseed was made yet or more than 100 ms went by since the last
