@@ -42,11 +42,13 @@ LinesRow =
 
 -- ---- frames
 
--- an empty line, another first byte, odd digits, lower case, another character, a space
+-- an empty line, another first byte, odd digits, lower case, another character, a space; the characters beside 0, 9, A and F
 abbrev pub NoFrameRow : Type 0
 NoFrameRow =
-    map frameOfText ([] ∷ ascii "00" ∷ ascii "06000703A1" ∷ ascii "010703A" ∷ ascii "010703a1" ∷ ascii "0107 3" ∷ ascii "010703 " ∷ [])
-    ≡ replicate 7 Invalid
+    map frameOfText
+    ([] ∷ ascii "00" ∷ ascii "06000703A1" ∷ ascii "010703A" ∷ ascii "010703a1" ∷ ascii "0107 3" ∷ ascii "010703 "
+    ∷ ascii "010703/1" ∷ ascii "010703:1" ∷ ascii "010703@1" ∷ ascii "010703G1" ∷ [])
+    ≡ replicate 11 Invalid
 
 -- each kind with a field missing
 abbrev pub MissingRow : Type 0
