@@ -65,11 +65,13 @@ contents es = joined (λ e. e .bytes) es
 unfoldable pub poolContents : Reference → ℕ → List ℕ
 poolContents b i = contents (select (pending (b .reseeds) i) (b .events))
 
+-- the reading minus the mark, modulo 2^32
+unfoldable pub waitedAt : Reference → ℕ → ℕ
+waitedAt b clock = (clock % 2 ^ 32 + 2 ^ 32 - b .lastReseed % 2 ^ 32) % 2 ^ 32
+
 -- due: pool 0 holds 64 bytes or more, and R = 0 or the reading minus the mark, modulo 2^32, is above 100
 unfoldable pub dueAt : Reference → ℕ → Bool
-dueAt b clock =
-    leb 64 (length (poolContents b 0))
-    && (eqb (b .reseeds) 0 || ltb 100 ((clock % 2 ^ 32 + 2 ^ 32 - b .lastReseed % 2 ^ 32) % 2 ^ 32))
+dueAt b clock = leb 64 (length (poolContents b 0)) && (eqb (b .reseeds) 0 || ltb 100 (waitedAt b clock))
 
 -- ---- what an accepted call does
 
