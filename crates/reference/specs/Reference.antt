@@ -1,6 +1,8 @@
 -- The reference model (01's plain logbook): a run worked out from the calls' arguments alone. It takes nothing of a Fortuna state or of
--- its answers. Shared with the station are only the refusal chains over plain values, `eventBytes`, `usedPools`, `D`, the generator's steps and the
--- rule of draws and shuffles.
+-- its answers. Text that it shares with the station is invisible to agreement, so rows and laws check it by itself (docs/PROOFS.md, 'What
+-- model and station share'): the refusal chains over plain values, with `seedSize`; `eventBytes`; `usedPools`; `D`, and the generator's
+-- `initial` and `reseed`; the rule of draws and shuffles, `tries` and `shuffled`, with `trySize`; and what a call and a run are,
+-- `inputBuffer`, `unchanged`, `effectOf`, `outcome`, `runFrom`, `stateFrom`. The generator's request it takes in closed form.
 -- Assumes nothing.
 use mathlib.Core.Bool.{Bool, true, false, cond, _&&_, _||_}
 use mathlib.Core.List.{List, [], _∷_, _++_}
