@@ -1,11 +1,11 @@
 #!/usr/bin/env python3
 """The year's checks of docs/CHECKLIST.md, on a bench program.
 
-    tests/checklist.py april PROGRAM         junk in place of a noise source
-    tests/checklist.py may PROGRAM           cold start from a stored seed
-    tests/checklist.py july PROGRAM          clock set back, then a draw every 50 ms
-    tests/checklist.py october PROGRAM       keys worked out again from the logged calls
-    tests/checklist.py year PROGRAM          all four
+    tests/bench/checklist.py april PROGRAM         junk in place of a noise source
+    tests/bench/checklist.py may PROGRAM           cold start from a stored seed
+    tests/bench/checklist.py july PROGRAM          clock set back, then a draw every 50 ms
+    tests/bench/checklist.py october PROGRAM       keys worked out again from the logged calls
+    tests/bench/checklist.py year PROGRAM          all four
 
 Each ends with a line 'NAME: pass' or 'NAME: FAIL: why'; the exit status is 1 where one failed. The logs, and the
 program's answers to them, stay in the directory given by --out, else in a new one, which is named. With --log FILE,
@@ -16,6 +16,8 @@ import re
 import sys
 import tempfile
 from pathlib import Path
+
+sys.path.append(str(Path(__file__).resolve().parents[1] / "independent"))
 
 from frames import HEADER, Noise, event, log_of, request, update, write
 from logbook import Event, booked, call_of, lines as lines_of
@@ -52,7 +54,7 @@ class Bench:
         return answers
 
     def work_out_again(self, name):
-        """Holds a run to what tests/logbook.py works out from its log."""
+        """Holds a run to what tests/independent/logbook.py works out from its log."""
         log = (self.directory / f"{name}.log").read_bytes()
         try:
             compare(log, answers_to(log), (self.directory / f"{name}.answers").read_bytes())
@@ -292,7 +294,7 @@ def october_lines():
 
 def october(bench):
     log = bench.station_log.read_bytes() if bench.station_log else log_of(october_lines())
-    print(f"The draws of {bench.station_log or 'a made log'} are worked out again by tests/logbook.py.")
+    print(f"The draws of {bench.station_log or 'a made log'} are worked out again by tests/independent/logbook.py.")
     answers = bench.run("october", log)
     bench.work_out_again("october")
     keys = list(draws(answers))

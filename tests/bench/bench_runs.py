@@ -1,11 +1,13 @@
 #!/usr/bin/env python3
 """Runs a bench program on the stored logs and on streams that are hard to read.
 
-    tests/bench_runs.py PROGRAM      a line for each check; exits 1 where one failed"""
+    tests/bench/bench_runs.py PROGRAM      a line for each check; exits 1 where one failed"""
 import sys
 from functools import partial
 from itertools import chain
 from pathlib import Path
+
+sys.path.append(str(Path(__file__).resolve().parents[1] / "independent"))
 
 from frames import Noise, event, log_of, request, update, wide_event
 from logs import LOGS, answers_to

@@ -1,12 +1,12 @@
 #!/usr/bin/env python3
 """An implementation made elsewhere: the whole station, by the rules of 01's plain logbook, and the bench's answers.
 
-    tests/logbook.py < LOG      prints what the bench must print
+    tests/independent/logbook.py < LOG      prints what the bench must print
 
 It holds no pools. It notes each accepted event with its r, the pool reseeds made before it, and works out from r which
 reseed the event is booked for; what a pool holds or gives follows from the bookings. Nothing is taken from the station.
-Draws and shuffles (02, i) are calls of it too, though no frame makes one; tests/slots.py runs them. SHA-256 is Python's
-hashlib, AES-256 is tests/aes256.py."""
+Draws and shuffles (02, i) are calls of it too, though no frame makes one; tests/c_interface/slots.py runs them. SHA-256 is Python's
+hashlib, AES-256 is tests/independent/aes256.py."""
 import sys
 from collections import defaultdict, namedtuple
 
