@@ -277,9 +277,9 @@ def answer(book, line):
     return b" ".join([b"00", b"%02d" % emptied] + ([buffer.hex().upper().encode()] if buffer else []))
 
 
-def answers(stream):
-    """The bench's answer to each line of a stream, with its LF."""
-    book = Logbook()
+def answers(stream, book=None):
+    """The bench's answer to each line of a stream, with its LF, from a fresh logbook or the one given."""
+    book = book or Logbook()
     for line in lines(stream):
         yield answer(book, line) + b"\n"
 
