@@ -1,5 +1,5 @@
-/* A read and a write for a program to run with (LD_PRELOAD). Of three calls one fails with EINTR, one with EAGAIN, and one
-   moves at most 11 bytes. */
+/* A read and a write for a program to run with (LD_PRELOAD). Of three calls one fails with EINTR, one with EAGAIN, and
+   one moves at most 11 bytes. */
 #include <errno.h>
 #include <stddef.h>
 #include <sys/types.h>

@@ -1,14 +1,15 @@
 #!/usr/bin/env python3
-"""Scripts (tests/c_interface/script.py) with draws and shuffles among all other calls, and their answers by tests/independent/logbook.py.
+"""Scripts (script.py, beside this) with draws and shuffles among all other calls, and their answers by
+tests/independent/logbook.py.
 
-    tests/c_interface/slots.py --long                        prints the long script
-    tests/c_interface/slots.py --answers < SCRIPT            prints a script's answers
-    tests/c_interface/slots.py --write DIRECTORY             writes the stored script and its answers
-    tests/c_interface/slots.py --check DIRECTORY             makes them again and exits 1 where a stored file differs
-    tests/c_interface/slots.py --against PROGRAM [--seconds S] [--seed N]
-                                                 the long script, then random ones, to tests/c_interface/script.c
-    tests/c_interface/slots.py --self-test [--seconds S] [--seed N]
-                                                 the same to tests/independent/station.py, with the state left as well
+    slots.py --long                        prints the long script
+    slots.py --answers < SCRIPT            prints a script's answers
+    slots.py --write DIRECTORY             writes the stored script and its answers
+    slots.py --check DIRECTORY             makes them again and exits 1 where a stored file differs
+    slots.py --against PROGRAM [--seconds S] [--seed N]
+                                           the long script, then random ones, to script.c, beside this
+    slots.py --self-test [--seconds S] [--seed N]
+                                           the same to tests/independent/station.py, with the state left as well
 
 Nothing in the long and the stored script comes from chance. Of a shuffle's draws, with 64 tries, chance gives no 33, so
 that the self-test also runs shuffles with few tries; no program does."""

@@ -1,6 +1,7 @@
 /* The stack that each exported call needs, and what it leaves there: each call runs in a thread on a painted stack.
-   Prints a line for each function: its name, the most bytes of stack that a case of it needed, and for calls on a state
-   the most copies of its key that stood there when the call had ended: of the key before it, and of the key after it. */
+   Prints a line for each function: its name, the most bytes of stack that a case of it needed, and for calls on a
+   state the most copies of its key that stood there when the call had ended: of the key before it, and of the key after
+   it. */
 #define _GNU_SOURCE
 #include "fortuna.h"
 

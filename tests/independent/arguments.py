@@ -1,4 +1,5 @@
-"""What the commands in bin/ share: a word that they don't know, or a file that can't be read, is one line and status 2."""
+"""What the commands in bin/ share: a word that they don't know, or a file that can't be read, is one line and
+status 2."""
 import argparse
 import sys
 

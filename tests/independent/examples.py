@@ -1,5 +1,5 @@
 #!/usr/bin/env python3
-"""What the programs in examples/ must print, worked out by tests/independent/station.py and, for the log, tests/independent/logbook.py.
+"""What the programs in examples/ must print, worked out by station.py and, for the log, logbook.py.
 
     tests/independent/examples.py                  prints it
     tests/independent/examples.py --check FILE     exits 1 where FILE differs"""
@@ -55,7 +55,7 @@ def main(args):
     with open(args[1], encoding="ascii") as stored:
         if stored.read() == text:
             return 0
-    print(f"{args[1]}: not what tests/independent/station.py and tests/independent/logbook.py work out", file=sys.stderr)
+    print(f"{args[1]}: not what station.py and logbook.py in tests/independent work out", file=sys.stderr)
     return 1
 
 

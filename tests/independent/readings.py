@@ -1,5 +1,5 @@
 #!/usr/bin/env python3
-"""01's 'Readings on the workbench', with those of 02 (iii), and the bounds of the refusals, asked of tests/independent/logbook.py.
+"""01's 'Readings on the workbench', with those of 02 (iii), and the bounds of the refusals, asked of logbook.py.
 
     tests/independent/readings.py      exits 1 at the first that does not hold"""
 import hashlib
