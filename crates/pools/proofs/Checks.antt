@@ -43,7 +43,7 @@ module _ (pools : List Hasher) (f m x y : Bool) (k : ℕ) (l : length pools ≡ 
 
 -- all are looked at, from the test of the other fields on
 pub checked-all : (s : Fortuna) (f m : Bool) (k : ℕ) → length (s .pools) ≡ 32 → 32 ≤ k
-    → f ≡ malformedFields (decode (s .generator)) (s .reseeded) (s .«last_reseed») (s .«reseed_count»)
+    → f ≡ malformedFields (decode (s .generator)) (s .reseeded) (s .«last_reseed») (s .«reseed_count») (s .«key_requests»)
     → Checked (s .pools) f m k → m ≡ malformed s
 unfolding anyPool malformed
 checked-all s f m k l h t e = sym (or-false m) ∙ rw (drop-of-length-le (s .pools) {i = k} (omega arith), t) at e

@@ -60,6 +60,7 @@ module _ (s : Fortuna) (source pool : ℕ) (d : List ℕ) (m : Bool) (k : ℕ) (
           «last_reseed» = s .«last_reseed»;
           «reseed_count» = s .«reseed_count»;
           reseeded = s .reseeded;
+          «key_requests» = s .«key_requests»;
         })
         (callEffect s (event source pool d) .next))
         × ([] ≡ callEffect s (event source pool d) .buffer)

@@ -14,7 +14,7 @@ use Rattle.hash.proofs.Laws.{pool-empty-length}
 use Rattle.pools.specs.Events.{poolCount}
 use Rattle.pools.specs.Schedule.{used, isDue}
 use Rattle.pools.specs.State.{poolAt, due}
-use Rattle.pools.specs.Effects.{Effect, unchanged, withGenerator, nextReseed, emptiedPools, poolReseed, reseedIfDue, emptiedBy, randomData}
+use Rattle.pools.specs.Effects.{Effect, unchanged, withRequest, nextReseed, emptiedPools, poolReseed, reseedIfDue, emptiedBy, randomData}
 use Rattle.pools.specs.Draws.{after, leaving, tries, shuffleFrom, shuffled, tryAt}
 use Rattle.pools.specs.declared.Fortuna.{Fortuna}
 use Rattle.pools.proofs.EachTry.{Kept, Begun, begun-tries, begun-shuffle, begun-shuffled}
@@ -41,7 +41,7 @@ unfolding due isDue
 reseeded-quiet s clock = rw (first-emptied s clock, pool-empty-length)
 
 pub quiet-after : (s : Fortuna) (clock n : ℕ) → due (randomData s clock n .next) clock ≡ false
-unfolding randomData withGenerator due poolAt reseedIfDue
+unfolding randomData withRequest due poolAt reseedIfDue
 quiet-after s clock n = go (due s clock) refl
   where
     go : (d : Bool) → due s clock ≡ d → due (cond d (poolReseed s clock) s) clock ≡ false

@@ -22,7 +22,7 @@ pub reseed-made : (s : Fortuna) (clock n : ℕ) (c : Collected) (g : Generator)
     → Collects (s .pools) n c
     → length (c .seed) ≡ 1024
     → g ≡ reseeded (s .generator) (take (32 * c .count) (c .seed))
-    → record { generator = g; pools = c .pools; «last_reseed» = clock; «reseed_count» = n; reseeded = true } ≡ poolReseed s clock
+    → record { generator = g; pools = c .pools; «last_reseed» = clock; «reseed_count» = n; reseeded = true; «key_requests» = 0 } ≡ poolReseed s clock
 unfolding poolReseed digests emptiedPools poolAt nth
 reseed-made s clock n c g able next taken size made =
     let few : 32 * c .count ≤ 1024 = omega (arith, taken .few) in

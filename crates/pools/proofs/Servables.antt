@@ -15,7 +15,7 @@ use Rattle.generator.specs.Operations.{reseeded}
 use Rattle.generator.specs.declared.Generator.{Generator}
 use Rattle.generator.proofs.Laws.{spent-is, small-request, small-seed, seed-blocks, reseeded-done}
 use Rattle.pools.specs.Pool.{malformedPool}
-use Rattle.pools.specs.State.{poolAt, counterOf, anyPool, unseededReseeded, strayTimer, malformedFields, malformed, due}
+use Rattle.pools.specs.State.{poolAt, counterOf, anyPool, unseededReseeded, strayTimer, unseededCounted, malformedFields, malformed, due}
 use Rattle.pools.specs.Refusals.{seedSize, unseeded, spent, requestNumber, writeNumber, updateNumber}
 use Rattle.pools.specs.Effects.{withGenerator, randomData, reseedWithSeed}
 use Rattle.pools.specs.Collected.{Servable}
@@ -27,24 +27,24 @@ neither : (a b : Bool) → (a || b) ≡ false → (a ≡ false) × (b ≡ false)
 neither true b e = (e, cc)
 neither false b e = (refl, e)
 
-first : (a b c : Bool) → (a || b || c) ≡ false → a ≡ false
-first true b c e = e
-first false b c e = refl
+first : (a b c d : Bool) → (a || b || c || d) ≡ false → a ≡ false
+first true b c d e = e
+first false b c d e = refl
 
 -- ---- a state that is not malformed
 
 module _ (s : Fortuna) (fine : malformed s ≡ false) where
   pub pools-formed : anyPool malformedPool (s .pools) ≡ false
   unfolding malformed
-  pools-formed = neither (anyPool malformedPool (s .pools)) (malformedFields (decode (s .generator)) (s .reseeded) (s .«last_reseed») (s .«reseed_count»)) fine .0
+  pools-formed = neither (anyPool malformedPool (s .pools)) (malformedFields (decode (s .generator)) (s .reseeded) (s .«last_reseed») (s .«reseed_count») (s .«key_requests»)) fine .0
 
-  pub fields-formed : malformedFields (decode (s .generator)) (s .reseeded) (s .«last_reseed») (s .«reseed_count») ≡ false
+  pub fields-formed : malformedFields (decode (s .generator)) (s .reseeded) (s .«last_reseed») (s .«reseed_count») (s .«key_requests») ≡ false
   unfolding malformed
-  fields-formed = neither (anyPool malformedPool (s .pools)) (malformedFields (decode (s .generator)) (s .reseeded) (s .«last_reseed») (s .«reseed_count»)) fine .1
+  fields-formed = neither (anyPool malformedPool (s .pools)) (malformedFields (decode (s .generator)) (s .reseeded) (s .«last_reseed») (s .«reseed_count») (s .«key_requests»)) fine .1
 
   pub generator-formed : Generator.malformed (decode (s .generator)) ≡ false
   unfolding malformedFields
-  generator-formed = first (Generator.malformed (decode (s .generator))) (unseededReseeded (decode (s .generator) .count) (s .reseeded)) (strayTimer (s .reseeded) (s .«last_reseed») (s .«reseed_count»)) fields-formed
+  generator-formed = first (Generator.malformed (decode (s .generator))) (unseededReseeded (decode (s .generator) .count) (s .reseeded)) (strayTimer (s .reseeded) (s .«last_reseed») (s .«reseed_count»)) (unseededCounted (decode (s .generator) .count) (s .«key_requests»)) fields-formed
 
 -- what a served request of n bytes leaves
 abbrev pub Serves : Fortuna → ℕ → ℕ → ℕ → Fortuna → List ℕ → Type 0
@@ -118,16 +118,16 @@ module _ (s : Fortuna) (clock : ℕ) (seed : List ℕ) (ok : updateNumber (malfo
       }
 
   -- g is what the generator's reseed left
-  seeded-state : (g : Generator) → g ≡ reseeded (s .generator) seed → _≡_ {A = Fortuna} (record { generator = g; pools = s .pools; «last_reseed» = s .«last_reseed»; «reseed_count» = s .«reseed_count»; reseeded = s .reseeded }) (reseedWithSeed s seed)
+  seeded-state : (g : Generator) → g ≡ reseeded (s .generator) seed → _≡_ {A = Fortuna} (record { generator = g; pools = s .pools; «last_reseed» = s .«last_reseed»; «reseed_count» = s .«reseed_count»; reseeded = s .reseeded; «key_requests» = s .«key_requests» }) (reseedWithSeed s seed)
   unfolding reseedWithSeed withGenerator
   seeded-state g e = rw (e, update-reseeded)
 
   pub update-servable : (d : Bool) (g : Generator) → d ≡ due s clock → g ≡ reseeded (s .generator) seed
-      → (d ≡ due (record { generator = g; pools = s .pools; «last_reseed» = s .«last_reseed»; «reseed_count» = s .«reseed_count»; reseeded = s .reseeded }) clock) × Servable (record { generator = g; pools = s .pools; «last_reseed» = s .«last_reseed»; «reseed_count» = s .«reseed_count»; reseeded = s .reseeded }) clock (length seed)
+      → (d ≡ due (record { generator = g; pools = s .pools; «last_reseed» = s .«last_reseed»; «reseed_count» = s .«reseed_count»; reseeded = s .reseeded; «key_requests» = s .«key_requests» }) clock) × Servable (record { generator = g; pools = s .pools; «last_reseed» = s .«last_reseed»; «reseed_count» = s .«reseed_count»; reseeded = s .reseeded; «key_requests» = s .«key_requests» }) clock (length seed)
   unfolding due poolAt
   update-servable d g e f = (e, rw (seeded-state g f, sized) seeded-servable)
 
   pub update-serves : (g : Generator) → g ≡ reseeded (s .generator) seed → (emptied : ℕ) (next : Fortuna) (bytes : List ℕ)
-      → Serves (record { generator = g; pools = s .pools; «last_reseed» = s .«last_reseed»; «reseed_count» = s .«reseed_count»; reseeded = s .reseeded }) clock (length seed) emptied next bytes → Serves (reseedWithSeed s seed) clock seedSize emptied next bytes
+      → Serves (record { generator = g; pools = s .pools; «last_reseed» = s .«last_reseed»; «reseed_count» = s .«reseed_count»; reseeded = s .reseeded; «key_requests» = s .«key_requests» }) clock (length seed) emptied next bytes → Serves (reseedWithSeed s seed) clock seedSize emptied next bytes
   unfolding seedSize
   update-serves g f emptied next bytes e = rw (seeded-state g f, sized) at e

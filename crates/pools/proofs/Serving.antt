@@ -17,8 +17,8 @@ use Rattle.generator.specs.declared.Generator.{Generator}
 use Rattle.generator.proofs.Laws.{unseeded-is, spent-is, reseed-count, decode-encode, keyed-formed, requested-done, request-buffer-done}
 use Rattle.pools.specs.Refusals.{unseeded, spent}
 use Rattle.pools.specs.State.{counterOf, due}
-use Rattle.pools.specs.Schedule.{usedPools}
-use Rattle.pools.specs.Effects.{withGenerator, digests, nextReseed, poolReseed, reseedIfDue, emptiedBy, randomData}
+use Rattle.pools.specs.Schedule.{usedPools, countRequest}
+use Rattle.pools.specs.Effects.{withRequest, digests, nextReseed, poolReseed, reseedIfDue, emptiedBy, randomData}
 use Rattle.pools.specs.Collected.{Reseedable, Servable}
 use Rattle.pools.specs.declared.Fortuna.{Fortuna}
 
@@ -100,18 +100,18 @@ module _ (s : Fortuna) (clock : ℕ) (out : List ℕ) (ok : Servable s clock (le
   ready true e = rw e (ready-due s clock (length out) ok e)
   ready false e = rw e (ready-not-due s clock (length out) ok e)
 
-  pub serve-is : (q : Fortuna) (emptied : ℕ) (g : Generator) (bytes : List ℕ) → (q ≡ reseedIfDue s clock) × (emptied ≡ emptiedBy s clock)
+  pub serve-is : (q : Fortuna) (emptied : ℕ) (g : Generator) (bytes : List ℕ) (count : ℕ) → count ≡ countRequest (q .«key_requests») → (q ≡ reseedIfDue s clock) × (emptied ≡ emptiedBy s clock)
       → (g ≡ requested (q .generator) out) × (bytes ≡ requestBuffer (q .generator) out)
       → (emptied ≡ randomData s clock (length out) .emptied)
-      × (record { generator = g; pools = q .pools; «last_reseed» = q .«last_reseed»; «reseed_count» = q .«reseed_count»; reseeded = q .reseeded }
+      × (record { generator = g; pools = q .pools; «last_reseed» = q .«last_reseed»; «reseed_count» = q .«reseed_count»; reseeded = q .reseeded; «key_requests» = count }
       ≡ randomData s clock (length out) .next)
       × (bytes ≡ randomData s clock (length out) .buffer)
-  unfolding randomData withGenerator
-  serve-is q emptied g bytes (e, f) (a, b) =
+  unfolding randomData withRequest
+  serve-is q emptied g bytes count more (e, f) (a, b) =
       let r = ready (due s clock) refl in
       let x : g ≡ encode (pseudoRandomData (decode (reseedIfDue s clock .generator)) (length out) .next) =
       a ∙ rw e (served-next (reseedIfDue s clock .generator) out (ok .short) r) in
-      (f, rw (x, e), b ∙ rw e (served-buffer (reseedIfDue s clock .generator) out (ok .short) r))
+      (f, rw (x, more, e), b ∙ rw e (served-buffer (reseedIfDue s clock .generator) out (ok .short) r))
 
 -- the two ways to the request
 pub served-due : (s : Fortuna) (clock : ℕ) (q : Fortuna) (emptied : ℕ) → due s clock ≡ true → (emptied ≡ length (usedPools (nextReseed s))) × (q ≡ poolReseed s clock)

@@ -23,9 +23,9 @@ use Rattle.slots.specs.Fair.{tryValue}
 use Rattle.pools.specs.Events.{poolCount}
 use Rattle.pools.specs.Schedule.{used}
 use Rattle.pools.specs.Pool.{tooLong, dirtyTail, strayChain, malformedPool}
-use Rattle.pools.specs.State.{poolAt, counterOf, anyPool, unseededReseeded, strayTimer, malformedFields, malformed, due}
+use Rattle.pools.specs.State.{poolAt, counterOf, anyPool, unseededReseeded, strayTimer, unseededCounted, malformedFields, malformed, due}
 use Rattle.pools.specs.Refusals.{unseeded, spent}
-use Rattle.pools.specs.Effects.{unchanged, withGenerator, nextReseed, digests, emptiedPools, poolReseed, reseedIfDue, randomData}
+use Rattle.pools.specs.Effects.{unchanged, withRequest, nextReseed, digests, emptiedPools, poolReseed, reseedIfDue, randomData}
 use Rattle.pools.specs.Collected.{nth}
 use Rattle.pools.specs.Draws.{Drawn, trySize, after, leaving, tries, tryAt}
 use Rattle.pools.specs.Tries.{Passing}
@@ -80,10 +80,9 @@ module _ (s : Fortuna) (clock : ℕ) where
   timer-kept : malformed s ≡ false → strayTimer (s .reseeded) (s .«last_reseed») (s .«reseed_count») ≡ false
   unfolding malformedFields
   timer-kept e =
-      neither
-      (Generator.malformed (decode (s .generator)) || unseededReseeded (decode (s .generator) .count) (s .reseeded))
-      (strayTimer (s .reseeded) (s .«last_reseed») (s .«reseed_count»))
-      (fields-formed s e) .1
+      let front : Bool = Generator.malformed (decode (s .generator)) || unseededReseeded (decode (s .generator) .count) (s .reseeded) in
+      let timer : Bool = strayTimer (s .reseeded) (s .«last_reseed») (s .«reseed_count») in
+      neither front timer (neither (front || timer) (unseededCounted (decode (s .generator) .count) (s .«key_requests»)) (fields-formed s e) .0) .1
 
   held-timer : malformed s ≡ false → strayTimer (reseedIfDue s clock .reseeded) (reseedIfDue s clock .«last_reseed») (reseedIfDue s clock .«reseed_count») ≡ false
   unfolding reseedIfDue
@@ -96,8 +95,8 @@ module _ (s : Fortuna) (clock : ℕ) where
 
 -- C above 0, pools and timer as they should be
 with-formed : (q : Fortuna) (w : GeneratorState) → w .count ≤ maxCounter → (w .count ≡ 0 → ⊥) → anyPool malformedPool (q .pools) ≡ false
-    → strayTimer (q .reseeded) (q .«last_reseed») (q .«reseed_count») ≡ false → malformed (withGenerator q w) ≡ false
-unfolding malformed malformedFields withGenerator unseededReseeded
+    → strayTimer (q .reseeded) (q .«last_reseed») (q .«reseed_count») ≡ false → malformed (withRequest q w) ≡ false
+unfolding malformed malformedFields withRequest unseededReseeded unseededCounted
 with-formed q w room some pools timer =
     let zero : eqb (w .count) 0 ≡ false = ne-eqb (w .count) 0 some in
     rw (pools, decode-encode w room, keyed-formed w (unseeded-is w ∙ zero), zero, timer)
@@ -115,12 +114,12 @@ module _ (s : Fortuna) (clock : ℕ) where
   made : GeneratorState
   made = pseudoRandomData (decode (reseedIfDue s clock .generator)) trySize .next
 
-  try-is : tryAt clock s .next ≡ withGenerator (reseedIfDue s clock) made
+  try-is : tryAt clock s .next ≡ withRequest (reseedIfDue s clock) made
   unfolding tryAt randomData made
   try-is = refl
 
   pub pools-next : length (s .pools) ≡ poolCount → length (tryAt clock s .next .pools) ≡ poolCount
-  pools-next all = rw try-is (unfold withGenerator in held-long s clock all)
+  pools-next all = rw try-is (unfold withRequest in held-long s clock all)
 
   made-is : counterOf s + cond (due s clock) 1 0 + 3 ≤ maxCounter → made .count ≡ counterOf s + cond (due s clock) 1 0 + 3
   unfolding made trySize
@@ -135,7 +134,7 @@ module _ (s : Fortuna) (clock : ℕ) where
       let fits : made .count ≤ maxCounter = rw count (omega arith) in
       let some : made .count ≡ 0 → ⊥ = λ z. omega (arith, count) in
       let quiet : due (tryAt clock s .next) clock ≡ false = unfold tryAt in quiet-after s clock trySize in
-      let next : counterOf (tryAt clock s .next) ≡ made .count = rw try-is (unfold counterOf withGenerator in ap (λ (w : GeneratorState). w .count) (decode-encode made fits)) in
+      let next : counterOf (tryAt clock s .next) ≡ made .count = rw try-is (unfold counterOf withRequest in ap (λ (w : GeneratorState). w .count) (decode-encode made fits)) in
       record {
         formed = rw try-is (with-formed (reseedIfDue s clock) made fits some (held-formed s clock all (p .formed)) (held-timer s clock (p .formed)));
         keyed = rw next (some-keyed (made .count) (due (tryAt clock s .next) clock) some);

@@ -10,7 +10,7 @@ use Rattle.hash.specs.Double.{emptyPool, poolDigest}
 use Rattle.hash.specs.declared.hasher.Hasher.{Hasher}
 use Rattle.generator.specs.Steps.{GeneratorState, decode, encode, reseed, pseudoRandomData}
 use Rattle.pools.specs.Events.{poolCount}
-use Rattle.pools.specs.Schedule.{used, usedPools}
+use Rattle.pools.specs.Schedule.{used, usedPools, countRequest}
 use Rattle.pools.specs.State.{poolAt, due}
 use Rattle.pools.specs.Refusals.{seedSize}
 use Rattle.pools.specs.declared.Fortuna.{Fortuna}
@@ -36,6 +36,7 @@ withPool s i p =
       «last_reseed» = s .«last_reseed»;
       «reseed_count» = s .«reseed_count»;
       reseeded = s .reseeded;
+      «key_requests» = s .«key_requests»;
     }
 
 unfoldable pub withGenerator : Fortuna → GeneratorState → Fortuna
@@ -46,6 +47,19 @@ withGenerator s w =
       «last_reseed» = s .«last_reseed»;
       «reseed_count» = s .«reseed_count»;
       reseeded = s .reseeded;
+      «key_requests» = s .«key_requests»;
+    }
+
+-- the state after a request that left K and C: one more on the key
+unfoldable pub withRequest : Fortuna → GeneratorState → Fortuna
+withRequest s w =
+    record {
+      generator = encode w;
+      pools = s .pools;
+      «last_reseed» = s .«last_reseed»;
+      «reseed_count» = s .«reseed_count»;
+      reseeded = s .reseeded;
+      «key_requests» = countRequest (s .«key_requests»);
     }
 
 -- pool i gains bytes (ADDRANDOMEVENT)
@@ -73,6 +87,7 @@ poolReseed s clock =
       «last_reseed» = clock;
       «reseed_count» = nextReseed s;
       reseeded = true;
+      «key_requests» = 0;
     }
 
 -- the pool reseed if due, and how many pools it empties
@@ -87,7 +102,7 @@ unfoldable pub randomData : Fortuna → ℕ → ℕ → Effect Fortuna
 randomData s clock n =
     let r = reseedIfDue s clock in
     let made = pseudoRandomData (decode (r .generator)) n in
-    record { emptied = emptiedBy s clock; buffer = made .bytes; next = withGenerator r (made .next); trace = made .trace }
+    record { emptied = emptiedBy s clock; buffer = made .bytes; next = withRequest r (made .next); trace = made .trace }
 
 -- the generator reseeded with a seed: neither time nor number of the pool reseeds moves
 unfoldable pub reseedWithSeed : Fortuna → List ℕ → Fortuna

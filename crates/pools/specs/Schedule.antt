@@ -2,7 +2,7 @@
 -- Assumes nothing.
 use mathlib.Core.Bool.{Bool, cond, not, _&&_, _||_}
 use mathlib.Core.List.{List, [], _∷_, _++_}
-use Prim.Native.Nat.{ℕ, zero, suc, _+_, _-_, _%_, _^_}
+use Prim.Native.Nat.{ℕ, zero, suc, _+_, _-_, _%_, _^_, min}
 use lib.Dec.{eqb, leb, ltb}
 use Rattle.pools.specs.Events.{poolCount}
 
@@ -26,3 +26,11 @@ elapsed clock last = (clock % 2 ^ 32 + (2 ^ 32 - last % 2 ^ 32)) % 2 ^ 32
 -- a pool reseed is due: by the length of pool 0, whether one was ever made, the time of the last one, and the reading
 unfoldable pub isDue : ℕ → Bool → ℕ → ℕ → Bool
 isDue size made last clock = leb 64 size && (not made || ltb 100 (elapsed clock last))
+
+-- the most requests on one key that are counted
+unfoldable pub maxKeyRequests : ℕ
+maxKeyRequests = 65535
+
+-- one more after n of them
+unfoldable pub countRequest : ℕ → ℕ
+countRequest n = min maxKeyRequests (n + 1)

@@ -15,7 +15,8 @@ use Rattle.pools.specs.Schedule.{isDue}
 use Rattle.pools.specs.Pool.{malformedPool}
 use Rattle.pools.specs.declared.Fortuna.{Fortuna}
 
--- K, C, time of the last reseed (01's mark) and reseed count (01's reseed number) 0, no reseed made (01's flag clear), pools empty
+-- K, C, time of the last reseed (01's mark), reseed count (01's reseed number) and requests on the key 0, no reseed made (01's flag
+-- clear), pools empty
 unfoldable pub fresh : Fortuna
 fresh =
     record {
@@ -24,6 +25,7 @@ fresh =
       «last_reseed» = 0;
       «reseed_count» = 0;
       reseeded = false;
+      «key_requests» = 0;
     }
 
 -- pool i
@@ -47,16 +49,20 @@ unseededReseeded c reseeded = eqb c 0 && reseeded
 unfoldable pub strayTimer : Bool → ℕ → ℕ → Bool
 strayTimer reseeded last count = not reseeded && not (eqb last 0 && eqb count 0)
 
--- 21, the clauses of K and C, of C and the flag, of the flag and the timer
-unfoldable pub malformedFields : GeneratorState → Bool → ℕ → ℕ → Bool
-malformedFields w reseeded last count =
-    Generator.malformed w || unseededReseeded (w .count) reseeded || strayTimer reseeded last count
+-- 21: C = 0 with a request on the key
+unfoldable pub unseededCounted : ℕ → ℕ → Bool
+unseededCounted c requests = eqb c 0 && not (eqb requests 0)
+
+-- 21, the clauses of K and C, of C and the flag, of the flag and the timer, of C and the requests on the key
+unfoldable pub malformedFields : GeneratorState → Bool → ℕ → ℕ → ℕ → Bool
+malformedFields w reseeded last count requests =
+    Generator.malformed w || unseededReseeded (w .count) reseeded || strayTimer reseeded last count || unseededCounted (w .count) requests
 
 -- 21, all clauses
 unfoldable pub malformed : Fortuna → Bool
 malformed s =
     anyPool malformedPool (s .pools)
-    || malformedFields (decode (s .generator)) (s .reseeded) (s .«last_reseed») (s .«reseed_count»)
+    || malformedFields (decode (s .generator)) (s .reseeded) (s .«last_reseed») (s .«reseed_count») (s .«key_requests»)
 
 -- a pool reseed is due at a reading
 unfoldable pub due : Fortuna → ℕ → Bool

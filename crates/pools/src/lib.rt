@@ -16,6 +16,7 @@ use refusals::shuffle_answer;
 use refusals::update_answer;
 use refusals::write_answer;
 use schedule::collect_digests;
+use schedule::counted;
 use schedule::is_due;
 use well_formed::fields_malformed;
 use well_formed::masks;
@@ -31,6 +32,8 @@ ghost use Rattle.pools.specs.Promises.{number, Gives, GivesBytes, Gains}
 
 // The state. last_reseed is 01's mark: the reading at the last pool reseed. reseed_count is 01's reseed number, kept modulo 2^32.
 // reseeded is 01's flag 'made one already', since the number comes back to 0.
+// key_requests is 02's number of requests on one key: the accepted requests, seed calls and single tries included, since the last
+// pool reseed or the fresh start, stopping at 65,535.
 #[repr(C)]
 pub struct Fortuna {
     pub generator: Generator,
@@ -38,6 +41,7 @@ pub struct Fortuna {
     pub last_reseed: u32,
     pub reseed_count: u32,
     pub reseeded: bool,
+    pub key_requests: u16,
 }
 
 // The answer, the pools emptied, and the state that follows.
@@ -73,6 +77,7 @@ impl Fortuna {
             last_reseed: 0,
             reseed_count: 0,
             reseeded: false,
+            key_requests: 0,
         }
     }
 
@@ -86,6 +91,7 @@ impl Fortuna {
             self.reseeded,
             self.last_reseed,
             self.reseed_count,
+            self.key_requests,
         );
         let mut k: usize = 0;
         while k < 32 {
@@ -127,6 +133,7 @@ impl Fortuna {
                 last_reseed: clock,
                 reseed_count: number,
                 reseeded: true,
+                key_requests: 0,
             },
         }
     }
@@ -146,6 +153,9 @@ impl Fortuna {
         let outcome = self.generator.pseudo_random_data(out);
         let generator = outcome.next;
         self.generator = generator;
+        let count = self.key_requests;
+        let more = counted(count);
+        self.key_requests = more;
         Served {
             emptied: emptied,
             next: self,
@@ -163,6 +173,7 @@ impl Fortuna {
             self.reseeded,
             self.last_reseed,
             self.reseed_count,
+            self.key_requests,
         );
         let mut k: usize = 0;
         while k < 32 {

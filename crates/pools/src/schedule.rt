@@ -3,7 +3,7 @@ use hash::Hasher;
 use laws::overwrite;
 ghost use mathlib.Core.Path.{_≡_};
 ghost use mathlib.Core.Bool.{false};
-ghost use Rattle.pools.specs.Schedule.{isDue};
+ghost use Rattle.pools.specs.Schedule.{isDue, countRequest};
 ghost use Rattle.pools.specs.Pool.{malformedPool};
 ghost use Rattle.pools.specs.State.{anyPool};
 ghost use Rattle.pools.specs.Collected.{Collects};
@@ -54,4 +54,11 @@ pub(crate) fn collect_digests(pools: [Hasher; 32], number: u32) -> Collected
         seed: seed,
         count: count,
     }
+}
+
+// One request more on the key, up to 65,535.
+pub(crate) fn counted(n: u16) -> u16
+    ensures { λ r. ⌜ r ≡ countRequest n ⌝ }
+{
+    if n < 65535 { n + 1 } else { n }
 }

@@ -206,9 +206,15 @@ pub(crate) fn pool_malformed(pool: Hasher, masks: &[u8; 127]) -> bool
     false
 }
 
-// Whether generator, flag and timer contradict each other.
-pub(crate) fn fields_malformed(generator: Generator, reseeded: bool, last: u32, count: u32) -> bool
-    ensures { λ r. ⌜ r ≡ malformedFields (decode generator) reseeded last count ⌝ }
+// Whether generator, flag, timer and the count of requests contradict each other.
+pub(crate) fn fields_malformed(
+    generator: Generator,
+    reseeded: bool,
+    last: u32,
+    count: u32,
+    requests: u16,
+) -> bool
+    ensures { λ r. ⌜ r ≡ malformedFields (decode generator) reseeded last count requests ⌝ }
 {
     if generator.is_malformed() {
         return true;
@@ -219,5 +225,11 @@ pub(crate) fn fields_malformed(generator: Generator, reseeded: bool, last: u32, 
     if last != 0 {
         return true;
     }
-    count != 0
+    if count != 0 {
+        return true;
+    }
+    if requests != 0 {
+        return generator.is_unseeded();
+    }
+    false
 }

@@ -17,6 +17,7 @@ use Rattle.generator.specs.Steps.{initial, encode}
 use Rattle.generator.specs.Operations as Operations
 use Rattle.pools.specs.declared.Fortuna.{Fortuna}
 use Rattle.pools.specs.Events.{poolCount, eventBytes}
+use Rattle.pools.specs.Schedule.{maxKeyRequests}
 use Rattle.pools.specs.State.{fresh, counterOf, malformed, due}
 use Rattle.pools.specs.Refusals.{andThen, seedSize, maxTries, requestNumber, updateNumber, writeNumber, drawNumber, shuffleNumber}
 use Rattle.pools.specs.Effects.{Effect, unchanged, writeSeed}
@@ -191,7 +192,7 @@ sound-after calls = sound-from calls 0 empty sound-empty
 -- ---- the fresh state
 
 pub fresh-concrete : fresh ≡ concrete empty
-unfolding fresh concrete empty Operations.fresh
+unfolding fresh concrete empty Operations.fresh maxKeyRequests
 fresh-concrete =
     λ i. record {
       generator = encode initial;
@@ -199,6 +200,7 @@ fresh-concrete =
       «last_reseed» = 0;
       «reseed_count» = 0;
       reseeded = false;
+      «key_requests» = 0;
     }
 
 pub agrees : (calls : List Call) → Agrees calls

@@ -1,12 +1,12 @@
 -- The boundary rows, by computation.
 -- Assumes nothing.
 use mathlib.Core.Path.{refl}
-use Rattle.reference.specs.Boundaries.{answers, refusals, withPools, withFirstPool, withKey, withTimer, keyedUnseeded, strings4, given, late, firstSeed, Boundaries}
+use Rattle.reference.specs.Boundaries.{answers, refusals, withPools, withFirstPool, withKey, withTimer, withRequests, keyedUnseeded, strings4, given, late, firstSeed, countAfter, Boundaries}
 use Rattle.reference.proofs.Computing.{answering, adding, emptying, seeding, drawing, starting}
 
 -- what these rows alone compute with
 own : Unit {0}
-unfolding answers refusals withPools withFirstPool withKey withTimer keyedUnseeded strings4 given late firstSeed
+unfolding answers refusals withPools withFirstPool withKey withTimer withRequests keyedUnseeded strings4 given late firstSeed countAfter
 own = tt
 
 pub boundaries : Boundaries
@@ -44,4 +44,8 @@ boundaries =
       usedBySix = refl;
       keptNumber = refl;
       generatorReseed = λ w s. refl;
+      countClause = (refl, refl);
+      counts = (refl, refl, refl, refl);
+      countsAnew = refl;
+      countsKept = (refl, refl);
     }

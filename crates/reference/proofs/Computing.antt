@@ -12,13 +12,13 @@ use Rattle.generator.specs.Operations as Operations
 use Rattle.slots.specs.Shuffle.{isIn, hasRepeat, exchange}
 use Rattle.slots.specs.Fair.{leastFrom, bitsFor, tryValue}
 use Rattle.pools.specs.Events.{maxSource, poolCount, maxData, header, eventBytes, headerLength, gain}
-use Rattle.pools.specs.Schedule.{used, usedBelow, usedPools, elapsed, isDue}
+use Rattle.pools.specs.Schedule.{used, usedBelow, usedPools, elapsed, isDue, maxKeyRequests, countRequest}
 use Rattle.pools.specs.Pool.{tooLong, dirtyTail, strayChain, malformedPool, full}
-use Rattle.pools.specs.State.{fresh, poolAt, counterOf, anyPool, unseededReseeded, strayTimer, malformedFields, malformed, due}
+use Rattle.pools.specs.State.{fresh, poolAt, counterOf, anyPool, unseededReseeded, strayTimer, unseededCounted, malformedFields, malformed, due}
 use Rattle.pools.specs.Refusals.{andThen, seedSize, unseeded, spent, eventInput, eventState, eventNumber, requestInput, outputState, requestNumber}
 use Rattle.pools.specs.Refusals.{seedInput, updateState, updateNumber, writeNumber}
 use Rattle.pools.specs.Refusals.{maxBelow, maxTries, maxList, drawInput, drawNumber, listInput, shuffleState, shuffleNumber}
-use Rattle.pools.specs.Effects.{unchanged, withPool, addEvent, withGenerator, nextReseed, poolReseed, reseedIfDue, emptiedBy, randomData, reseedWithSeed, updateSeed, writeSeed}
+use Rattle.pools.specs.Effects.{unchanged, withPool, addEvent, withGenerator, withRequest, nextReseed, poolReseed, reseedIfDue, emptiedBy, randomData, reseedWithSeed, updateSeed, writeSeed}
 use Rattle.pools.specs.Draws.{trySize, tries, leaving, after, shuffleFrom, shuffled, tryAt}
 use Rattle.pools.specs.Calls.{inputBuffer, callNumber, callEffect, callFound, callValue, effectOf, outcome, step}
 use Rattle.reference.specs.Readings.{wholeBlocks, reseededState, seededState}
@@ -35,7 +35,7 @@ counting = tt
 
 -- a fresh state, and 21
 unfoldable pub forming : Unit {0}
-unfolding poolCount tooLong dirtyTail strayChain malformedPool fresh poolAt counterOf anyPool unseededReseeded strayTimer malformedFields malformed
+unfolding poolCount tooLong dirtyTail strayChain malformedPool fresh poolAt counterOf anyPool unseededReseeded strayTimer unseededCounted malformedFields malformed
 forming = tt
 
 -- the numbers of events, of requests and seed calls, of draws and shuffles
@@ -67,7 +67,7 @@ adding = tt
 
 -- the pools that an accepted request empties, and the number that is kept
 unfoldable pub emptying : Unit {0}
-unfolding used usedBelow usedPools nextReseed emptiedBy poolReseed reseedIfDue withGenerator randomData
+unfolding used usedBelow usedPools nextReseed emptiedBy poolReseed reseedIfDue maxKeyRequests countRequest withGenerator withRequest randomData
 emptying = tt
 
 -- what a seed call does

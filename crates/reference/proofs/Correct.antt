@@ -8,6 +8,7 @@ use Rattle.reference.proofs.Provenance as Events
 use Rattle.reference.proofs.Timer.{elapsed-law, timer-step}
 use Rattle.reference.proofs.Counters.{no-repeat}
 use Rattle.reference.proofs.Counting.{counted}
+use Rattle.reference.proofs.KeyRequests.{on-one-key}
 
 pub run-correct : (calls : List Call) → RunCorrect calls
 run-correct calls =
@@ -19,4 +20,5 @@ run-correct calls =
       timer = λ before c later _. timer-step before c;
       counters = no-repeat calls;
       counted = counted calls;
+      key-requests = on-one-key calls;
     }

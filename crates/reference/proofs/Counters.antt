@@ -19,7 +19,7 @@ use Rattle.pools.specs.Effects.{Effect, unchanged}
 use Rattle.pools.specs.Draws.{trySize, after, leaving}
 use Rattle.pools.specs.Calls.{Call, event, request, update, write, draw, shuffle, inputBuffer, Outcome, effectOf, outcome, runFrom}
 use Rattle.pools.proofs.EachTry.{Kept, kept-tries, kept-shuffled}
-use Rattle.reference.specs.Reference.{referenceTry, Reference, empty, appendEvent, withState, referenceReseedIfDue, referenceRequest, referenceEffect, referenceStep, referenceRun}
+use Rattle.reference.specs.Reference.{referenceTry, Reference, empty, appendEvent, withState, requestedState, referenceReseedIfDue, referenceRequest, referenceEffect, referenceStep, referenceRun}
 use Rattle.reference.specs.Agreement.{concreteOutcome}
 use Rattle.reference.specs.Counters.{NoRepeat, counterBlocks}
 use Rattle.reference.proofs.Invariant.{Sound, sound-empty, count-reseed-if-due}
@@ -88,7 +88,7 @@ outcome-rises n buffer b x r = go (eqb n 0)
     go false = unfold RisesTo unchanged in top (b .generator .count) (omega arith)
 
 request-rises : (b : Reference) (t n lo : ℕ) → lo ≤ b .generator .count → RisesTo lo (referenceRequest b t n)
-unfolding referenceRequest withState RisesTo
+unfolding referenceRequest requestedState RisesTo
 request-rises b t n lo h = rising-from (omega (arith, count-reseed-if-due b t)) (random-data-rises (referenceReseedIfDue b t .generator) n)
 
 tries-rise : (clock : ℕ) → Kept (referenceTry clock) (λ (b : Reference). RisesTo (b .generator .count))

@@ -18,7 +18,7 @@ use Rattle.pools.specs.Effects.{Effect, unchanged}
 use Rattle.pools.specs.Draws.{trySize, after, leaving}
 use Rattle.pools.specs.Calls.{Call, event, request, update, write, draw, shuffle, inputBuffer, Outcome, effectOf, outcome, runFrom, stateFrom, run, stateAfter}
 use Rattle.pools.proofs.EachTry.{Kept, kept-tries, kept-shuffled}
-use Rattle.reference.specs.Reference.{Reference, empty, appendEvent, withState, referenceReseedIfDue, referenceRequest, referenceTry, referenceNumber, referenceFound, referenceEffect, referenceStep, referenceRun, referenceAfter, dueAt}
+use Rattle.reference.specs.Reference.{Reference, empty, appendEvent, withState, requestedState, referenceReseedIfDue, referenceRequest, referenceTry, referenceNumber, referenceFound, referenceEffect, referenceStep, referenceRun, referenceAfter, dueAt}
 use Rattle.reference.specs.Agreement.{concrete, concreteOutcome}
 use Rattle.reference.specs.Timer.{reseedsAfter}
 use Rattle.reference.specs.Counters.{counterBlocks, isUpdate, seedsIn, Counted}
@@ -42,7 +42,7 @@ Grows s b e = e .next .generator .count + b .reseeds ≡ b .generator .count + l
 request-made :
     (b : Reference) (t n : ℕ) →
     referenceRequest b t n .next .generator .count ≡ b .generator .count + cond (dueAt b t) 1 0 + length (referenceRequest b t n .trace)
-unfolding referenceRequest withState closedRandomData rekeyed
+unfolding referenceRequest requestedState closedRandomData rekeyed
 request-made b t n = omega (arith, count-reseed-if-due b t, counters-length (referenceReseedIfDue b t .generator .count) (blockCount n + 2))
 
 request-grows : (b : Reference) (t n : ℕ) → Grows 0 b (referenceRequest b t n)

@@ -14,7 +14,7 @@ use Rattle.pools.specs.declared.Fortuna.{Fortuna}
 use Rattle.pools.specs.Refusals.{maxTries}
 use Rattle.pools.specs.Effects.{unchanged}
 use Rattle.pools.specs.Draws.{Drawn, trySize, after, leaving, tries, shuffled, tryAt}
-use Rattle.reference.specs.Reference.{Reference, dueAt, withState, referenceRequest, referenceTry}
+use Rattle.reference.specs.Reference.{Reference, dueAt, requestedState, referenceRequest, referenceTry}
 use Rattle.reference.specs.Agreement.{concrete}
 use Rattle.reference.proofs.Invariant.{Sound, count-reseed-if-due}
 use Rattle.reference.proofs.Carried.{keptList, shuffled-kept, Carries, carried, Follows, tries-follow, shuffle-follows, shuffled-carried}
@@ -54,7 +54,7 @@ module _ (clock : ℕ) where
     try-agrees = request-agrees b clock trySize (r .sound) try-room
 
     try-count : referenceTry clock b .next .generator .count ≡ b .generator .count + cond (dueAt b clock) 1 0 + 3
-    unfolding referenceTry referenceRequest withState closedRandomData rekeyed
+    unfolding referenceTry referenceRequest requestedState closedRandomData rekeyed
     try-count = rw try-blocks (ap (λ (c : ℕ). c + 3) (count-reseed-if-due b clock))
 
     try-ready : Ready (referenceTry clock b .next) k

@@ -15,7 +15,7 @@ use Rattle.hash.specs.Double.{maxPoolLength}
 use Rattle.generator.specs.Counter.{maxCounter}
 use Rattle.generator.specs.Steps.{GeneratorState, initial, reseed}
 use Rattle.pools.specs.Schedule.{used, usedPools}
-use Rattle.reference.specs.Reference.{Accepted, Reference, empty, select, pending, consumedAt, contents, poolContents, dueAt, appendEvent, withState, referenceReseed, referenceReseedIfDue, referenceCount}
+use Rattle.reference.specs.Reference.{Accepted, Reference, empty, select, pending, consumedAt, contents, poolContents, dueAt, appendEvent, withState, requestedState, referenceReseed, referenceReseedIfDue, referenceCount}
 use Rattle.reference.proofs.Bookings.{Past, past-later, past-append, select-append, new-pending, pending-consumed, pending-gone, pending-stays}
 
 pub record Sound (b : Reference) : Type 0 where
@@ -25,6 +25,7 @@ pub record Sound (b : Reference) : Type 0 where
   pub keyed : b .generator .count ≡ 0 → allZero (b .generator .key) ≡ true
   pub seeds : b .generator .count ≡ 0 → b .reseeds ≡ 0
   pub marked : b .reseeds ≡ 0 → b .lastReseed ≡ 0
+  pub counted : b .generator .count ≡ 0 → b .keyRequests ≡ 0
 
 -- nothing is in a pool yet
 pub empty-contents : (i : ℕ) → poolContents empty i ≡ []
@@ -40,6 +41,7 @@ sound-empty =
       keyed = λ h. unfold empty initial in allZero-replicate 32;
       seeds = λ h. unfold empty in refl;
       marked = λ h. unfold empty in refl;
+      counted = λ h. unfold empty in refl;
     }
 
 -- ---- the model's words, read once: what it notes of an event, and how many pools a reseed uses
@@ -98,6 +100,7 @@ sound-event place b pool bytes h s =
       keyed = unfold appendEvent in s .keyed;
       seeds = unfold appendEvent in s .seeds;
       marked = unfold appendEvent in s .marked;
+      counted = unfold appendEvent in s .counted;
     }
   where
     grown : (i : ℕ) (t : Bool) → (t ≡ true → pool ≡ i) → length (poolContents b i) + length (cond t bytes []) ≤ maxPoolLength
@@ -114,6 +117,20 @@ sound-state b w h pos s =
       keyed = λ z. absurd (omega arith);
       seeds = λ z. absurd (omega arith);
       marked = s .marked;
+      counted = λ z. absurd (omega arith);
+    }
+
+pub sound-request : (b : Reference) (w : GeneratorState) → w .count ≤ maxCounter → 0 < w .count → Sound b → Sound (requestedState b w)
+unfolding requestedState poolContents
+sound-request b w h pos s =
+    record {
+      past = s .past;
+      fits = s .fits;
+      counts = h;
+      keyed = λ z. absurd (omega arith);
+      seeds = λ z. absurd (omega arith);
+      marked = s .marked;
+      counted = λ z. absurd (omega arith);
     }
 
 pub sound-reseed : (b : Reference) (t : ℕ) → b .generator .count + 1 ≤ maxCounter → Sound b → Sound (referenceReseed b t)
@@ -128,6 +145,7 @@ sound-reseed b t h s =
       keyed = λ z. absurd (omega arith);
       seeds = λ z. absurd (omega arith);
       marked = λ z. absurd (omega arith);
+      counted = λ z. absurd (omega arith);
     }
 
 -- ---- a pool reseed if due

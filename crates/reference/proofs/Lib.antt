@@ -18,6 +18,7 @@ pub mod Tracing
 pub mod Taken
 pub mod Keys
 pub mod Provenance
+pub mod KeyRequests
 pub mod Correct
 pub mod Computing
 pub mod Readings

@@ -14,7 +14,7 @@ use Rattle.pools.specs.Schedule.{elapsed, isDue}
 use Rattle.pools.specs.Effects.{Effect, unchanged}
 use Rattle.pools.specs.Draws.{trySize, after, leaving, tries, shuffled}
 use Rattle.pools.proofs.EachTry.{Kept, Begun, begun-tries, begun-shuffled}
-use Rattle.reference.specs.Reference.{Reference, poolContents, waitedAt, dueAt, withState, referenceReseed, referenceReseedIfDue, referenceCount, referenceRequest, referenceTry}
+use Rattle.reference.specs.Reference.{Reference, poolContents, waitedAt, dueAt, withState, requestedState, referenceReseed, referenceReseedIfDue, referenceCount, referenceRequest, referenceTry}
 use Rattle.reference.proofs.Invariant.{count-is}
 use Rattle.reference.proofs.Concrete.{due-is}
 
@@ -32,7 +32,7 @@ reseed-moves b clock true = record { reseeds = refl; mark = omega arith; events 
 reseed-moves b clock false = record { reseeds = omega arith; mark = refl; events = refl }
 
 pub request-moves : (b : Reference) (clock n : ℕ) → Moved b (dueAt b clock) clock (referenceRequest b clock n .next)
-unfolding referenceRequest referenceReseedIfDue withState
+unfolding referenceRequest referenceReseedIfDue requestedState
 request-moves b clock n =
     let m = reseed-moves b clock (dueAt b clock) in
     record { reseeds = m .reseeds; mark = m .mark; events = m .events }
@@ -65,12 +65,16 @@ just-reseeded : (b : Reference) (clock : ℕ) → dueAt (referenceReseed b clock
 unfolding referenceReseed
 just-reseeded b clock = sym (due-is (referenceReseed b clock) clock) ∙ made-now _ (b .reseeds) _ clock (omega arith)
 
+requested-due : (b : Reference) (w : GeneratorState) (clock : ℕ) → dueAt (requestedState b w) clock ≡ dueAt b clock
+unfolding requestedState waitedAt dueAt poolContents
+requested-due b w clock = refl
+
 pub request-quiet : (b : Reference) (clock n : ℕ) → dueAt (referenceRequest b clock n .next) clock ≡ false
 unfolding referenceRequest referenceReseedIfDue
 request-quiet b clock n =
     by-test (dueAt b clock) _
-    (λ t. rw t (state-due (referenceReseed b clock) _ clock ∙ just-reseeded b clock))
-    (λ t. rw t (state-due b _ clock ∙ t))
+    (λ t. rw t (requested-due (referenceReseed b clock) _ clock ∙ just-reseeded b clock))
+    (λ t. rw t (requested-due b _ clock ∙ t))
 
 -- ---- draws and shuffles: the reseed of the first try
 

@@ -12,7 +12,7 @@ use Rattle.pools.specs.Refusals.{seedSize}
 use Rattle.pools.specs.Effects.{randomData, updateSeed}
 use Rattle.reference.specs.Reference.{Reference, dueAt, withState, referenceReseedIfDue, referenceRequest}
 use Rattle.reference.specs.Agreement.{concrete}
-use Rattle.reference.proofs.Invariant.{Sound, sound-state, sound-reseed-if-due, count-reseed-if-due}
+use Rattle.reference.proofs.Invariant.{Sound, sound-state, sound-request, sound-reseed-if-due, count-reseed-if-due}
 use Rattle.reference.proofs.Moves.{state-due}
 use Rattle.reference.proofs.Simulation.{concreteEffect, random-data-concrete, reseed-with-seed-concrete}
 
@@ -27,7 +27,7 @@ module _ (b : Reference) (t n : ℕ) (s : Sound b) (room : b .generator .count +
   unfolding referenceRequest closedRandomData
   request-sound =
       let r = referenceReseedIfDue b t in
-      sound-state r (rekeyed (r .generator) n) (unfold rekeyed in omega (arith, count-reseed-if-due b t)) (unfold rekeyed in omega arith) reseeded-sound
+      sound-request r (rekeyed (r .generator) n) (unfold rekeyed in omega (arith, count-reseed-if-due b t)) (unfold rekeyed in omega arith) reseeded-sound
 
 -- ---- a seed update
 

@@ -4,8 +4,9 @@ use mathlib.Core.Path.{_≡_, refl, sym, ap, ap₂, _∙_}
 use mathlib.Core.Logic.{_≢_}
 use mathlib.Core.Bool.{Bool, true, false, cond}
 use mathlib.Core.List.{List, _++_, append-nil}
-use Prim.Native.Nat.{ℕ, _+_, _%_, _^_, _<_}
-use native.Mathlib.Nat.{mod-add-mod}
+use Prim.Native.Nat.{ℕ, _+_, _%_, _^_, _<_, min}
+use native.Mathlib.Nat.{mod-add-mod, min-eq-left, min-eq-right}
+use native.Mathlib.Decide.{decLe}
 use native.Mathlib.Omega.{arith}
 use lib.Dec.{ltb}
 use lib.ListN.{length, set}
@@ -23,10 +24,10 @@ use Rattle.generator.specs.Closed.{closedRandomData}
 use Rattle.generator.proofs.Steps.{random-data-closed}
 use Rattle.pools.specs.declared.Fortuna.{Fortuna}
 use Rattle.pools.specs.Events.{poolCount}
-use Rattle.pools.specs.Schedule.{used, usedPools}
+use Rattle.pools.specs.Schedule.{used, usedPools, maxKeyRequests, countRequest}
 use Rattle.pools.specs.State.{poolAt}
-use Rattle.pools.specs.Effects.{Effect, withPool, withGenerator, addEvent, nextReseed, digests, emptiedPools, poolReseed, reseedIfDue, emptiedBy, randomData, reseedWithSeed}
-use Rattle.reference.specs.Reference.{Reference, select, consumedAt, contents, poolContents, dueAt, appendEvent, withState, scheduledDigests, referenceReseed, referenceReseedIfDue, referenceCount, referenceRequest}
+use Rattle.pools.specs.Effects.{Effect, withPool, withGenerator, withRequest, addEvent, nextReseed, digests, emptiedPools, poolReseed, reseedIfDue, emptiedBy, randomData, reseedWithSeed}
+use Rattle.reference.specs.Reference.{Reference, select, consumedAt, contents, poolContents, dueAt, appendEvent, withState, requestedState, scheduledDigests, referenceReseed, referenceReseedIfDue, referenceCount, referenceRequest}
 use Rattle.reference.specs.Agreement.{concrete}
 use Rattle.reference.proofs.Schedule.{used-mod, used-pools-mod, joined-used}
 use Rattle.reference.proofs.Invariant.{Sound, count-is, contents-event, contents-used, contents-unused, contents-consumed}
@@ -41,6 +42,18 @@ concreteEffect e = record { emptied = e .emptied; buffer = e .buffer; next = con
 pub with-generator-concrete : (b : Reference) (w : GeneratorState) → withGenerator (concrete b) w ≡ concrete (withState b w)
 unfolding withGenerator concrete withState poolContents
 with-generator-concrete b w = refl
+
+-- one request more, up to the most that are counted
+pub count-concrete : (m n : ℕ) → min m (min m n + 1) ≡ min m (n + 1)
+count-concrete m n =
+    elim (decLe m n) [
+      | yes h ↦ rw (min-eq-left h, min-eq-left {n = m} {m = m + 1} (omega arith), min-eq-left {n = m} {m = n + 1} (omega arith))
+      | no h ↦ rw (min-eq-right {n = n} {m = m} (omega arith))
+    ]
+
+with-request-concrete : (b : Reference) (w : GeneratorState) → withRequest (concrete b) w ≡ concrete (requestedState b w)
+unfolding withRequest concrete requestedState poolContents countRequest
+with-request-concrete b w = rw (count-concrete maxKeyRequests (b .keyRequests))
 
 -- ---- an event
 
@@ -65,6 +78,7 @@ module _ (place : ℕ) (b : Reference) (pool : ℕ) (bytes : List ℕ) where
         «last_reseed» = b .lastReseed;
         «reseed_count» = b .reseeds % 2 ^ 32;
         reseeded = ltb 0 (b .reseeds);
+        «key_requests» = min maxKeyRequests (b .keyRequests);
       }
 
 -- ---- a pool reseed
@@ -117,7 +131,7 @@ module _ (b : Reference) (t : ℕ) (s : Sound b) where
   mark-moves = omega arith
 
   pub pool-reseed-concrete : poolReseed (concrete b) t ≡ concrete (referenceReseed b t)
-  unfolding poolReseed concrete referenceReseed
+  unfolding poolReseed concrete referenceReseed maxKeyRequests
   pool-reseed-concrete =
       λ i. record {
         generator = reseed-generator i;
@@ -125,6 +139,7 @@ module _ (b : Reference) (t : ℕ) (s : Sound b) where
         «last_reseed» = mark-moves i;
         «reseed_count» = next-reseed-concrete b i;
         reseeded = sym (lt-ltb 0 (b .reseeds + 1) (omega arith)) i;
+        «key_requests» = 0;
       }
 
   reseed-if-due-concrete : reseedIfDue (concrete b) t ≡ concrete (referenceReseedIfDue b t)
@@ -143,11 +158,11 @@ module _ (b : Reference) (t : ℕ) (s : Sound b) where
 
 -- what is left once the pools gave k digests: the generator's request
 requested : Fortuna → ℕ → Generated → Effect Fortuna
-requested s k made = record { emptied = k; buffer = made .bytes; next = withGenerator s (made .next); trace = made .trace }
+requested s k made = record { emptied = k; buffer = made .bytes; next = withRequest s (made .next); trace = made .trace }
 
 requested-concrete : (b : Reference) (n k : ℕ) → Sound b
     → requested (concrete b) k (pseudoRandomData (decode (concrete b .generator)) n)
-    ≡ concreteEffect (record { emptied = k; buffer = closedRandomData (b .generator) n .bytes; next = withState b (closedRandomData (b .generator) n .next); trace = closedRandomData (b .generator) n .trace })
+    ≡ concreteEffect (record { emptied = k; buffer = closedRandomData (b .generator) n .bytes; next = requestedState b (closedRandomData (b .generator) n .next); trace = closedRandomData (b .generator) n .trace })
 unfolding requested concreteEffect
 requested-concrete b n k s =
     ap (λ (w : GeneratorState). requested (concrete b) k (pseudoRandomData w n)) (decode-concrete b s)
@@ -155,7 +170,7 @@ requested-concrete b n k s =
     ∙ λ i. record {
       emptied = k;
       buffer = closedRandomData (b .generator) n .bytes;
-      next = with-generator-concrete b (closedRandomData (b .generator) n .next) i;
+      next = with-request-concrete b (closedRandomData (b .generator) n .next) i;
       trace = closedRandomData (b .generator) n .trace;
     }
 

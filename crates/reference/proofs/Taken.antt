@@ -10,7 +10,7 @@ use Rattle.generator.specs.Steps.{GeneratorState, Generated}
 use Rattle.generator.proofs.Steps.{random-data-closed}
 use Rattle.pools.specs.Effects.{Effect, unchanged}
 use Rattle.pools.specs.Draws.{trySize, after, leaving, tries, shuffleFrom, shuffled}
-use Rattle.reference.specs.Reference.{Reference, dueAt, withState, referenceReseed, referenceReseedIfDue, referenceRequest, referenceTry}
+use Rattle.reference.specs.Reference.{Reference, dueAt, requestedState, referenceReseed, referenceReseedIfDue, referenceRequest, referenceTry}
 use Rattle.reference.specs.Provenance.{served}
 use Rattle.reference.proofs.Carried.{Carries, carried, Follows, tries-from, shuffle-from, shuffled-carried}
 use Rattle.reference.proofs.Moves.{request-quiet}
@@ -27,7 +27,7 @@ unfolding alone unchanged leaving after
 alone-carries = record { buffer = λ e. refl; next = λ e. refl; idle = λ l b. refl; leaves = λ l e. refl; joins = λ e f. refl }
 
 pub request-alone : (b : Reference) (clock n : ℕ) → served n (referenceReseedIfDue b clock .generator) ≡ alone (referenceRequest b clock n)
-unfolding alone referenceRequest served withState
+unfolding alone referenceRequest served requestedState
 request-alone b clock n =
     ap (λ (made : Generated). record { emptied = 0; buffer = made .bytes; next = made .next; trace = made .trace }) (random-data-closed (referenceReseedIfDue b clock .generator) n)
 

@@ -14,7 +14,7 @@ use Rattle.pools.specs.declared.Fortuna.{Fortuna}
 use Rattle.pools.specs.Schedule.{usedPools, elapsed, isDue}
 use Rattle.pools.specs.State.{poolAt, due}
 use Rattle.pools.specs.Refusals.{andThen}
-use Rattle.pools.specs.Effects.{Effect, unchanged, withPool, withGenerator, addEvent, nextReseed, poolReseed, reseedIfDue, emptiedBy, randomData, reseedWithSeed, updateSeed, writeSeed}
+use Rattle.pools.specs.Effects.{Effect, unchanged, withPool, withGenerator, withRequest, addEvent, nextReseed, poolReseed, reseedIfDue, emptiedBy, randomData, reseedWithSeed, updateSeed, writeSeed}
 use Rattle.pools.specs.Draws.{trySize, after, leaving, tries, shuffled, tryAt}
 use Rattle.pools.specs.Calls.{Call, event, request, update, write, draw, shuffle, readingOf, inputBuffer, callNumber, callEffect, callFound, effectOf, outcome, step, stateAfter}
 use Rattle.pools.proofs.Bounds.{number-small}
@@ -83,7 +83,7 @@ emptied-due s clock = go (due s clock)
     go true = lt-ltb 0 _ (used-some (nextReseed s))
     go false = refl
 
-seeded-due : (s : Fortuna) (seed : List ℕ) (clock : ℕ) → due (reseedWithSeed s seed) clock ≡ due s clock
+pub seeded-due : (s : Fortuna) (seed : List ℕ) (clock : ℕ) → due (reseedWithSeed s seed) clock ≡ due s clock
 unfolding due poolAt reseedWithSeed withGenerator
 seeded-due s seed clock = refl
 
@@ -112,7 +112,7 @@ effect-emptied s (draw clock n d) = draw-emptied clock n d s
 effect-emptied s (shuffle clock list) = shuffle-emptied clock list s
 
 random-data-mark : (s : Fortuna) (clock n : ℕ) → randomData s clock n .next .«last_reseed» ≡ cond (due s clock) clock (s .«last_reseed»)
-unfolding randomData withGenerator reseedIfDue
+unfolding randomData withRequest reseedIfDue
 random-data-mark s clock n = go (due s clock)
   where
     go : (d : Bool) → cond d (poolReseed s clock) s .«last_reseed» ≡ cond d clock (s .«last_reseed»)

@@ -2,18 +2,20 @@
 -- Assumes nothing.
 use mathlib.Core.Path.{_≡_}
 use mathlib.Core.List.{List, [], _∷_, _++_, map}
-use Prim.Native.Nat.{_%_, _^_}
+use Prim.Native.Nat.{_%_, _^_, min}
 use lib.Dec.{ltb}
 use Rattle.laws.specs.Lists.{tabulate}
 use Rattle.hash.specs.Double.{poolOf}
 use Rattle.generator.specs.Steps.{encode}
 use Rattle.pools.specs.declared.Fortuna.{Fortuna}
 use Rattle.pools.specs.Events.{poolCount}
+use Rattle.pools.specs.Schedule.{maxKeyRequests}
 use Rattle.pools.specs.State.{fresh}
 use Rattle.pools.specs.Calls.{Call, Outcome, step, run, stateAfter}
 use Rattle.reference.specs.Reference.{Reference, empty, poolContents, referenceRun, referenceAfter}
 
--- the state that the model says: its K, C and mark, R modulo 2^32, the flag set exactly when R is above 0, and for each pool
+-- the state that the model says: its K, C and mark, R modulo 2^32, the flag set exactly when R is above 0, the requests on the key up to
+-- 65,535, and for each pool
 -- the running hash, tail and length that the bytes it holds leave
 unfoldable pub concrete : Reference → Fortuna
 concrete b =
@@ -23,6 +25,7 @@ concrete b =
       «last_reseed» = b .lastReseed;
       «reseed_count» = b .reseeds % 2 ^ 32;
       reseeded = ltb 0 (b .reseeds);
+      «key_requests» = min maxKeyRequests (b .keyRequests);
     }
 
 -- a model's outcome with the state that it says

@@ -32,6 +32,7 @@ withPools s ps =
       «last_reseed» = s .«last_reseed»;
       «reseed_count» = s .«reseed_count»;
       reseeded = s .reseeded;
+      «key_requests» = s .«key_requests»;
     }
 
 unfoldable pub withFirstPool : Fortuna → Hasher → Fortuna
@@ -46,6 +47,7 @@ withKey key =
       «last_reseed» = 0;
       «reseed_count» = 0;
       reseeded = false;
+      «key_requests» = 0;
     }
 
 -- and one with the first byte of K, C, time, count and flag
@@ -57,6 +59,19 @@ withTimer key c last count made =
       «last_reseed» = last;
       «reseed_count» = count;
       reseeded = made;
+      «key_requests» = 0;
+    }
+
+-- a state with another number of requests on the key
+unfoldable pub withRequests : Fortuna → ℕ → Fortuna
+withRequests s n =
+    record {
+      generator = s .generator;
+      pools = s .pools;
+      «last_reseed» = s .«last_reseed»;
+      «reseed_count» = s .«reseed_count»;
+      reseeded = s .reseeded;
+      «key_requests» = n;
     }
 
 -- C = 0 with K not all zero: a state that 21 refuses
@@ -302,6 +317,41 @@ SpentOrderRow =
     refusals (withTimer 1 (2 ^ 128 - 1) 5 0 false)
     (request 0 [] ∷ update 0 (replicate 64 1) ∷ write 0 (replicate 64 1) ∷ draw 0 1 1 ∷ shuffle 0 (5 ∷ 6 ∷ []) ∷ []) ≡ replicate 5 21
 
+-- requests on one key, 21: C = 0 with a number above 0; not where C is 1, though no pool reseed was made (seeded by an update alone)
+abbrev pub CountClauseRow : Type 0
+CountClauseRow =
+    (map (λ (n : ℕ). malformed (withRequests fresh n)) (0 ∷ 1 ∷ 65535 ∷ []) ≡ false ∷ true ∷ true ∷ [])
+    × (map (λ (n : ℕ). malformed (withRequests (seededState 1) n)) (0 ∷ 1 ∷ 65535 ∷ []) ≡ false ∷ false ∷ false ∷ [])
+
+-- the number on the key that a call leaves
+unfoldable pub countAfter : Fortuna → Call → ℕ
+countAfter s c = step s c .effect .next .«key_requests»
+
+-- fresh it is 0; each request and seed call is one more, up to 65,535, also an update of a fresh state
+abbrev pub CountRow : Type 0
+CountRow =
+    (fresh .«key_requests» ≡ 0)
+    × (map (λ (n : ℕ). countAfter (withRequests (seededState 1) n) (request 0 [])) (0 ∷ 9 ∷ 65534 ∷ 65535 ∷ []) ≡ 1 ∷ 10 ∷ 65535 ∷ 65535 ∷ [])
+    × (map (countAfter (withRequests (seededState 1) 9)) (update 0 firstSeed ∷ write 0 firstSeed ∷ []) ≡ 10 ∷ 10 ∷ [])
+    × (countAfter fresh (update 0 firstSeed) ≡ 1)
+
+-- the one that makes a pool reseed leaves 1: reading 100 is not due, 101 is
+abbrev pub CountAnewRow : Type 0
+CountAnewRow =
+    map (λ (clock : ℕ). map (countAfter (withRequests (reseededState 1 1 0) 9)) (request clock [] ∷ update clock firstSeed ∷ write clock firstSeed ∷ []))
+    (100 ∷ 101 ∷ [])
+    ≡ (10 ∷ 10 ∷ 10 ∷ []) ∷ (1 ∷ 1 ∷ 1 ∷ []) ∷ []
+
+-- an event, a list of fewer than 2 numbers and a refused call of each kind leave it
+abbrev pub CountKeptRow : Type 0
+CountKeptRow =
+    (map (countAfter (withRequests (seededState 1) 9))
+    (event 7 0 (1 ∷ []) ∷ shuffle 0 [] ∷ shuffle 0 (5 ∷ []) ∷ event 7 32 (1 ∷ []) ∷ update 0 [] ∷ write 0 [] ∷ draw 0 0 1 ∷ shuffle 0 (5 ∷ 5 ∷ []) ∷ [])
+    ≡ replicate 8 9)
+    × (map (countAfter (withRequests (seededState (2 ^ 128 - 1)) 9))
+    (request 0 [] ∷ update 0 firstSeed ∷ write 0 firstSeed ∷ draw 0 6 1 ∷ shuffle 0 (5 ∷ 6 ∷ []) ∷ [])
+    ≡ replicate 5 9)
+
 -- the rows together
 pub record Boundaries : Type 0 where
   pub events : EventRow
@@ -335,3 +385,7 @@ pub record Boundaries : Type 0 where
   pub usedBySix : UsedRow
   pub keptNumber : KeptNumberRow
   pub generatorReseed : ReseedRow
+  pub countClause : CountClauseRow
+  pub counts : CountRow
+  pub countsAnew : CountAnewRow
+  pub countsKept : CountKeptRow

@@ -8,6 +8,7 @@ use Rattle.reference.specs.Agreement.{RunIsSteps, Agrees}
 use Rattle.reference.specs.Provenance.{Provenance}
 use Rattle.reference.specs.Timer.{ElapsedLaw, TimerStep}
 use Rattle.reference.specs.Counters.{NoRepeat, counterBlocks, Counted}
+use Rattle.reference.specs.KeyRequests.{OnOneKey}
 
 pub record RunCorrect (calls : List Call) : Type 0 where
   -- the run is its calls' steps, one after the other
@@ -22,3 +23,5 @@ pub record RunCorrect (calls : List Call) : Type 0 where
   -- no counter block is enciphered twice, and none is left out
   pub counters : NoRepeat (counterBlocks calls)
   pub counted : Counted calls
+  -- the number in the state says how many requests were made on the key
+  pub key-requests : OnOneKey calls

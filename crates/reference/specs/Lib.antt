@@ -2,6 +2,7 @@ pub mod Reference
 pub mod Agreement
 pub mod Timer
 pub mod Counters
+pub mod KeyRequests
 pub mod Provenance
 pub mod Correct
 pub mod Readings

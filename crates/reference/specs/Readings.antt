@@ -28,6 +28,7 @@ reseededState c n mark =
       «last_reseed» = mark;
       «reseed_count» = n;
       reseeded = true;
+      «key_requests» = 0;
     }
 
 -- a seeded state with the counter c, and nothing in the pools
@@ -39,6 +40,7 @@ seededState c =
       «last_reseed» = 0;
       «reseed_count» = 0;
       reseeded = false;
+      «key_requests» = 0;
     }
 
 -- the pools that a request of no bytes empties
@@ -98,7 +100,7 @@ SpentRow = map (λ (c : ℕ). step (seededState c) (request 0 []) .number) ((2 ^
 unfoldable pub bookedAfter : ℕ → List ℕ
 bookedAfter r =
     map scheduled
-    (referenceStep 0 (record { generator = initial; lastReseed = 0; reseeds = r; events = [] }) (event 7 2 (0xa1 ∷ [])) .effect .next .events)
+    (referenceStep 0 (record { generator = initial; lastReseed = 0; reseeds = r; events = []; keyRequests = 0 }) (event 7 2 (0xa1 ∷ [])) .effect .next .events)
 
 -- pool 2, an event after reseed 5 enters at 8, after reseed 8 at 12
 abbrev pub ScheduleRow : Type 0

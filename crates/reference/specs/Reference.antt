@@ -27,16 +27,17 @@ pub record Accepted : Type 0 where
   pub bytes : List ℕ
   pub reseedsBefore : ℕ
 
--- K and C, the mark, R (never wrapped), and the accepted events in arrival order
+-- K and C, the mark, R (never wrapped), the accepted events in arrival order, and the requests made since the last reseed (never stopped)
 pub record Reference : Type 0 where
   pub generator : GeneratorState
   pub lastReseed : ℕ
   pub reseeds : ℕ
   pub events : List Accepted
+  pub keyRequests : ℕ
 
 -- 0 everywhere and no events
 unfoldable pub empty : Reference
-empty = record { generator = initial; lastReseed = 0; reseeds = 0; events = [] }
+empty = record { generator = initial; lastReseed = 0; reseeds = 0; events = []; keyRequests = 0 }
 
 -- ---- the schedule
 
@@ -85,10 +86,17 @@ appendEvent place b i bytes =
       lastReseed = b .lastReseed;
       reseeds = b .reseeds;
       events = b .events ++ (record { place = place; pool = i; bytes = bytes; reseedsBefore = b .reseeds } ∷ []);
+      keyRequests = b .keyRequests;
     }
 
 unfoldable pub withState : Reference → GeneratorState → Reference
-withState b w = record { generator = w; lastReseed = b .lastReseed; reseeds = b .reseeds; events = b .events }
+withState b w =
+    record { generator = w; lastReseed = b .lastReseed; reseeds = b .reseeds; events = b .events; keyRequests = b .keyRequests }
+
+-- K and C that a request left, which counts as one more on the key
+unfoldable pub requestedState : Reference → GeneratorState → Reference
+requestedState b w =
+    record { generator = w; lastReseed = b .lastReseed; reseeds = b .reseeds; events = b .events; keyRequests = b .keyRequests + 1 }
 
 -- for each i with 2^i dividing n, D of the bytes of pool i's events booked for n, joined in rising i
 unfoldable pub scheduledDigests : Reference → ℕ → List ℕ
@@ -102,6 +110,7 @@ referenceReseed b clock =
       lastReseed = clock;
       reseeds = b .reseeds + 1;
       events = b .events;
+      keyRequests = 0;
     }
 
 unfoldable pub referenceReseedIfDue : Reference → ℕ → Reference
@@ -116,7 +125,7 @@ unfoldable pub referenceRequest : Reference → ℕ → ℕ → Effect Reference
 referenceRequest b clock n =
     let r = referenceReseedIfDue b clock in
     let made = closedRandomData (r .generator) n in
-    record { emptied = referenceCount b clock; buffer = made .bytes; next = withState r (made .next); trace = made .trace }
+    record { emptied = referenceCount b clock; buffer = made .bytes; next = requestedState r (made .next); trace = made .trace }
 
 -- ---- the calls; 21 never arises
 
