@@ -100,7 +100,7 @@ sound-event place b pool bytes h s =
       keyed = unfold appendEvent in s .keyed;
       seeds = unfold appendEvent in s .seeds;
       marked = unfold appendEvent in s .marked;
-      counted = unfold appendEvent in s .counted;
+      counted = λ h. unfold appendEvent in omega (arith, s .counted h);
     }
   where
     grown : (i : ℕ) (t : Bool) → (t ≡ true → pool ≡ i) → length (poolContents b i) + length (cond t bytes []) ≤ maxPoolLength

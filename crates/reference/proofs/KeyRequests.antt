@@ -178,8 +178,8 @@ module _ (s : Fortuna) (n : ℕ) (before : s .«key_requests» ≡ min maxKeyReq
       (unfold updateSeed in
       one-more clock (reseedWithSeed s seed) seedSize _ (holds-start clock (reseedWithSeed s seed) n (unfold reseedWithSeed withGenerator in before)))
   effect-counts (write clock seed) = unfold writeSeed in one-more clock s seedSize _ (holds-start clock s n before)
-  effect-counts (draw clock b d) = draw-effect clock b d
-  effect-counts (shuffle clock list) = shuffle-effect clock list
+  effect-counts (draw clock b d) = draw-effect clock b d ∙ ap (min maxKeyRequests) (omega arith)
+  effect-counts (shuffle clock list) = shuffle-effect clock list ∙ ap (min maxKeyRequests) (omega arith)
 
   -- refused or not
   outcome-counts :
@@ -204,7 +204,8 @@ run-counts :
     stateFrom (λ place. step) place s calls .«key_requests» ≡ min maxKeyRequests (sinceReseed n s calls)
 unfolding stateFrom sinceReseed
 run-counts [] place s n e = e
-run-counts (c ∷ calls) place s n e = run-counts calls (suc place) (step s c .effect .next) _ (step-counts s n e c)
+run-counts (c ∷ calls) place s n e =
+    run-counts calls (suc place) (step s c .effect .next) _ (step-counts s n e c ∙ ap (min maxKeyRequests) (omega arith))
 
 pub on-one-key : (calls : List Call) → OnOneKey calls
 unfolding stateAfter fresh maxKeyRequests
@@ -214,7 +215,7 @@ pub draw-counted : (s : Fortuna) (clock n d : ℕ) → DrawCounts s clock n d
 unfolding maxKeyRequests
 draw-counted s clock n d =
     record {
-      accepted = λ e. unfold requestsMade requestsOf in rw e;
+      accepted = λ e. unfold requestsMade requestsOf in rw e (omega arith);
       more = λ k e m. rw (e, m) at (step-counts s 9 k (draw clock n d));
       anew = λ k e m. rw (lt-ltb 0 _ e, m) at (step-counts s 9 k (draw clock n d));
       all = λ k e m. rw (e, m) at (step-counts s 9 k (draw clock n d));

@@ -69,6 +69,10 @@ module _ (place : ℕ) (b : Reference) (pool : ℕ) (bytes : List ℕ) where
       ap (λ (p : Hasher). set (concrete b .pools) pool p) (ap (λ (p : Hasher). absorb p bytes) (pool-concrete b pool h) ∙ absorb-pool (poolContents b pool) bytes ∙ ap poolOf (sym pool-gains))
       ∙ (unfold concrete in set-tabulate (λ i. poolOf (poolContents b i)) (λ i. poolOf (poolContents (appendEvent place b pool bytes) i)) poolCount pool h (λ i n. ap poolOf (others-keep i n)))
 
+  event-uncounted : b .keyRequests ≡ appendEvent place b pool bytes .keyRequests
+  unfolding appendEvent
+  event-uncounted = omega arith
+
   pub add-event-concrete : pool < poolCount → addEvent (concrete b) pool bytes ≡ concrete (appendEvent place b pool bytes)
   unfolding addEvent withPool concrete appendEvent
   add-event-concrete h =
@@ -78,7 +82,7 @@ module _ (place : ℕ) (b : Reference) (pool : ℕ) (bytes : List ℕ) where
         «last_reseed» = b .lastReseed;
         «reseed_count» = b .reseeds % 2 ^ 32;
         reseeded = ltb 0 (b .reseeds);
-        «key_requests» = min maxKeyRequests (b .keyRequests);
+        «key_requests» = ap (min maxKeyRequests) event-uncounted i;
       }
 
 -- ---- a pool reseed
