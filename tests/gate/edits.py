@@ -2,6 +2,7 @@
 """Wrong programs and wrong definitions that the prover must refuse, tried over what rt has just proved.
 
     tests/gate/edits.py [CRATE...]      the edits crates/NAME/must-fail/quick/*.edit, of all crates or of those named
+    tests/gate/edits.py CRATE/LABEL     an edit of either kind
     tests/gate/edits.py --all ..        also crates/NAME/must-fail/*.edit, which rt ci tries from nothing
     tests/gate/edits.py --self-test     whether edits that show nothing are told from those that do
 
@@ -25,9 +26,14 @@ from pathlib import Path
 from prover import TARGET, Failure, Prover, copy_of, crates, folder_of
 
 MARKS = ("file:", "old:", "new:")
-# What the first error says where a proof file was written for other code: it names a need that the code has not, answers
-# the needs in another order, or goes to a fact by a stage that is not there.
-MISFIT = re.compile(r"has no `|has no field `|expected type `tie\.\S*`, but this has type `tie\.|is not in scope|not found")
+FAULT = re.compile(r"(?P<place>\S+): error: (?P<text>.*)|note: (?P<place2>\S+): it is not proved that (?P<text2>.*)")
+# An error that says no more than that another declaration was refused.
+FOLLOWS = "was not admitted"
+# What an error says where a proof file was written for other code: it names a need that the code has not, answers the needs in
+# another order, goes to a fact by a stage that is not there, or gives an invariant over other locals.
+MISFIT = re.compile(
+    r"has no `Need-|has no field `|expected type `tie\.\S+.*`, but this has type `tie\.|^`(Inv|\u03bc)-\S+`:|^`walks?`:|is not in scope"
+)
 
 
 class Bad(Exception):
@@ -95,19 +101,34 @@ def edits_of(crate, everything):
     return [Edit(crate, file.stem, file.read_text()) for file in files]
 
 
-def verdict(status, said, folder):
-    """Whether the prover refused a crate, and the place of its first error; Bad where what it said shows nothing."""
+def first_fault(said):
+    """The first thing that the prover says against a crate, as a place and a text: an error, or a fact that no proof was found of.
+    A text goes on in lines that start with spaces. What could not be checked only because something else was refused is passed
+    over."""
+    for message in re.split(r"\n(?!  )", said):
+        fault = FAULT.match(re.sub(r"\s+", " ", message))
+        if fault and FOLLOWS not in fault[0]:
+            return fault["place"] or fault["place2"], fault["text"] or fault["text2"]
+    return None, ""
+
+
+def verdict(status, said):
+    """Where the prover refused a crate, and at what; None where it did not. Bad where what it said shows nothing."""
     if status == 0:
-        return False, None
+        return None
     if status == 3:
         raise Bad("the prover could not tell")
     if status != 1 or not re.search(r"^logic=not-proved", said, re.M):
         raise Bad(f"it did not reach the prover (exit {status})")
-    error = re.search(r"^(\S+): error: (.*)$", said, re.M)
-    if error and MISFIT.search(error[2]):
-        raise Bad(f"a proof file does not fit the code, which shows nothing ({error[1].removeprefix(f'{folder}/')})")
-    note = error or re.search(r"^note: (\S+:\d+:\d+):", said, re.M)
-    return True, note[1].removeprefix(f"{folder}/") if note else "a place not named"
+    place, text = first_fault(said)
+    if place is None:
+        raise Bad("the prover does not say what it refused")
+    if MISFIT.search(text):
+        raise Bad(f"a proof file does not fit the code, which shows nothing (first at {place})")
+    if place.startswith("specs/"):
+        raise Bad(f"a definition is not well formed, which shows nothing (first at {place})")
+    name = re.search(r"`[^`]+`", text)
+    return f"{place} {name[0]}" if name else place
 
 
 class Trial:
@@ -133,14 +154,15 @@ class Trial:
             edit.apply(folder)
             self.prover.fill(edit.crate, folder / "checked")
             status, said = self.prover.check(edit.crate, self.table[edit.crate], folder, folder / "checked")
-            log(edit, said.replace(f"{folder}/", ""))
-            refused, place = verdict(status, said, folder)
+            said = said.replace(f"{folder}/", "")
+            log(edit, said)
+            place = verdict(status, said)
         except (Bad, Failure) as why:
             return f"BAD EDIT: {why}", False
         finally:
             shutil.rmtree(folder, ignore_errors=True)
         took = f"{time.monotonic() - began:.0f} s"
-        if refused:
+        if place:
             return f"refused, as it must be (first at {place}; {took})", True
         return f"NOT REFUSED: the crate is still proved with this edit ({took})", False
 
@@ -174,9 +196,23 @@ def readied(trial, names, jobs):
         return dict(zip(names, pool.map(why_not, names)))
 
 
-def try_crates(trial, names, everything, jobs):
-    """Tries the edits of crates; how many were not refused as they must be."""
-    edits = {name: found for name in names if (found := edits_of(name, everything))}
+def chosen(names, everything):
+    """The edits that are asked for, by their crates: names are those of crates, or CRATE/LABEL."""
+    edits = {}
+    for name in names or crates():
+        crate, slash, label = name.partition("/")
+        if crate not in crates():
+            raise Failure(f"crates.txt has no crate {crate}")
+        found = [edit for edit in edits_of(crate, everything or slash) if not slash or edit.label == label]
+        if slash and not found:
+            raise Failure(f"{crate} has no edit {label}")
+        if found:
+            edits.setdefault(crate, []).extend(found)
+    return edits
+
+
+def try_edits(trial, edits, jobs):
+    """Tries edits, given by their crates; how many were not refused as they must be."""
     failed = []
     for name, why in readied(trial, list(edits), jobs).items():
         if why:
@@ -217,6 +253,21 @@ CASES = {
         "BAD EDIT: it did not reach the prover",
         "a parenthesis is missing\nfile: src/bits.rt\nold: if n <= power(k) {\nnew: if n <= power(k {\n",
     ),
+    "misfit": (
+        "BAD EDIT: a proof file does not fit the code",
+        "the low bits are not cut off, and the proof file asks for a need that is gone\n"
+        "file: src/bits.rt\nold: return number(bytes) % power(k);\nnew: return number(bytes);\n",
+    ),
+    "misfit_in_a_loop": (
+        "BAD EDIT: a proof file does not fit the code",
+        "the search goes on by another test, and the proof file goes by stages that are not there\n"
+        "file: src/bits.rt\nold:         k = k + 1;\nnew:         k = k + 1; if k > 40 { return k; }\n",
+    ),
+    "ill_formed": (
+        "BAD EDIT: a definition is not well formed",
+        "a definition speaks of a number that it was not given\n"
+        "file: specs/Fair.antt\nold: tryValue n bytes = value bytes % 2 ^ bitsFor n\nnew: tryValue n bytes = value bytes % bitsFor\n",
+    ),
     "no_first_line": (
         "BAD EDIT: its first line must say",
         "file: src/bits.rt\nold: if n <= power(k) {\nnew: if n < power(k) {\n",
@@ -244,18 +295,21 @@ def self_test(trial, jobs):
     return len(wrong)
 
 
+def wrong_usage(why):
+    print(f"edits: {why}; --help says more", file=sys.stderr)
+    sys.exit(2)
+
+
 def arguments():
     parser = argparse.ArgumentParser(description=__doc__, formatter_class=argparse.RawDescriptionHelpFormatter)
-    parser.add_argument("crates", nargs="*", metavar="CRATE", help="a crate of crates.txt (default: all)")
+    parser.add_argument("names", nargs="*", metavar="CRATE[/LABEL]", help="a crate of crates.txt, or one edit (default: all crates)")
     parser.add_argument("--all", action="store_true", help="try the edits of must-fail/ too")
     parser.add_argument("--jobs", type=int, default=os.cpu_count() or 1, help="how many at a time (default: the processors)")
     parser.add_argument("--self-test", action="store_true", help="see that edits that show nothing are told")
+    parser.error = wrong_usage
     options = parser.parse_args()
     if options.jobs < 1:
         parser.error("--jobs takes a number from 1 on")
-    for name in options.crates:
-        if name not in crates():
-            parser.error(f"crates.txt has no crate {name}")
     return options
 
 
@@ -263,11 +317,9 @@ def main():
     options = arguments()
     with tempfile.TemporaryDirectory() as room:
         try:
+            edits = chosen(options.names, options.all)
             trial = Trial(Path(room))
-            if options.self_test:
-                failed = self_test(trial, options.jobs)
-            else:
-                failed = try_crates(trial, options.crates or list(crates()), options.all, options.jobs)
+            failed = self_test(trial, options.jobs) if options.self_test else try_edits(trial, edits, options.jobs)
         except Failure as why:
             print(f"edits: {why}", file=sys.stderr)
             sys.exit(2)
