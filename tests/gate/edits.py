@@ -31,8 +31,10 @@ FAULT = re.compile(r"(?P<place>\S+): error: (?P<text>.*)|note: (?P<place2>\S+): 
 FOLLOWS = "was not admitted"
 # What an error says where a proof file was written for other code: it names a need that the code has not, answers the needs in
 # another order, goes to a fact by a stage that is not there, or gives an invariant over other locals.
+# So does every error in a walk by hand, which says the code again step by step.
 MISFIT = re.compile(
-    r"has no `Need-|has no field `|expected type `tie\.\S+.*`, but this has type `tie\.|^`(Inv|\u03bc)-\S+`:|^`walks?`:|is not in scope"
+    r"has no `Need-|has no field `|expected type `tie\.\S+.*`, but this has type `tie\."
+    r"|^`(Inv|μ)-\S+`:|^`walks?`:|is not in scope"
 )
 
 
@@ -148,7 +150,7 @@ class Trial:
     def outcome(self, edit):
         """What is to be said of an edit, and whether it was refused as it must be."""
         began = time.monotonic()
-        folder = self.room / edit.crate / edit.label
+        folder = Path(tempfile.mkdtemp(dir=self.room))
         try:
             copy_of(edit.crate, folder)
             edit.apply(folder)
@@ -157,8 +159,10 @@ class Trial:
             said = said.replace(f"{folder}/", "")
             log(edit, said)
             place = verdict(status, said)
-        except (Bad, Failure) as why:
+        except Bad as why:
             return f"BAD EDIT: {why}", False
+        except (Failure, OSError) as why:
+            return f"NOT TRIED: {why}", False
         finally:
             shutil.rmtree(folder, ignore_errors=True)
         took = f"{time.monotonic() - began:.0f} s"
@@ -189,7 +193,7 @@ def readied(trial, names, jobs):
         try:
             trial.ready(name)
             return None
-        except Failure as why:
+        except (Failure, OSError) as why:
             return why
 
     with ThreadPoolExecutor(jobs) as pool:
@@ -265,8 +269,8 @@ CASES = {
     ),
     "ill_formed": (
         "BAD EDIT: a definition is not well formed",
-        "a definition speaks of a number that it was not given\n"
-        "file: specs/Fair.antt\nold: tryValue n bytes = value bytes % 2 ^ bitsFor n\nnew: tryValue n bytes = value bytes % bitsFor\n",
+        "a definition takes a function for a number\n"
+        "file: specs/Fair.antt\nold: value bytes % 2 ^ bitsFor n\nnew: value bytes % bitsFor\n",
     ),
     "no_first_line": (
         "BAD EDIT: its first line must say",
@@ -302,7 +306,7 @@ def wrong_usage(why):
 
 def arguments():
     parser = argparse.ArgumentParser(description=__doc__, formatter_class=argparse.RawDescriptionHelpFormatter)
-    parser.add_argument("names", nargs="*", metavar="CRATE[/LABEL]", help="a crate of crates.txt, or one edit (default: all crates)")
+    parser.add_argument("names", nargs="*", metavar="CRATE[/LABEL]", help="a crate, or one edit (default: all crates)")
     parser.add_argument("--all", action="store_true", help="try the edits of must-fail/ too")
     parser.add_argument("--jobs", type=int, default=os.cpu_count() or 1, help="how many at a time (default: the processors)")
     parser.add_argument("--self-test", action="store_true", help="see that edits that show nothing are told")

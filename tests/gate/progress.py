@@ -31,7 +31,7 @@ def wanted(names):
 
 
 class Progress:
-    """What rt's logs say of the crates: rt starts target/log/NAME.out where it starts on a crate, and its last line says the end."""
+    """What the logs of rt say of crates. rt starts target/log/NAME.out where it starts on a crate; a line there says the end."""
 
     def __init__(self, names):
         self.names = wanted(names)

@@ -6,9 +6,10 @@ import platform
 import re
 import shutil
 import subprocess
+import tempfile
 from pathlib import Path
 
-ROOT = Path(__file__).resolve().parent.parent.parent
+ROOT = Path(__file__).resolve().parents[2]
 TARGET = ROOT / "target"
 PARTS = ("src", "specs", "proofs")
 LIMIT = 1800  # seconds after which a run of the prover counts as hung
@@ -99,8 +100,8 @@ class Prover:
         shutil.copytree(modules, checked / self.build)
 
     def nothing_left(self, name, uses, room):
-        """Fails unless the crate as it is has nothing left to check over what rt proved: then the modules are those of its files."""
-        folder = room / name / "as it is"
+        """Fails unless the crate as it is has nothing left to check over what rt proved: then the modules are its files' own."""
+        folder = Path(tempfile.mkdtemp(dir=room))
         copy_of(name, folder)
         self.fill(name, folder / "checked")
         status, said = self.check(name, uses, folder, folder / "checked")
