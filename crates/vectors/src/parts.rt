@@ -28,7 +28,7 @@ pub(crate) fn front(s: &[u8], n: usize) -> &[u8] {
     s
 }
 
-// What follows the first n bytes.
+// What follows the first n bytes, none where there are fewer.
 pub(crate) fn after(s: &[u8], n: usize) -> &[u8] {
     let end = s.len();
     if n < end {
