@@ -17,6 +17,7 @@ import argparse
 import os
 import re
 import shutil
+import signal
 import sys
 import tempfile
 import time
@@ -178,12 +179,15 @@ def log(edit, said):
 
 
 def run(trial, edits, jobs, report):
-    """Tries edits, some at a time, and reports each as it is done; what is raised in a job is raised here."""
-    with ThreadPoolExecutor(jobs) as pool:
+    """Tries edits, some at a time, and reports each as it is done. Where it is stopped, no more edits are started."""
+    pool = ThreadPoolExecutor(jobs)
+    try:
         work = {pool.submit(trial.outcome, edit): edit for edit in edits}
         for left, job in zip(range(len(work) - 1, -1, -1), as_completed(work)):
             text, refused = job.result()
             report(work[job], text, refused, left)
+    finally:
+        pool.shutdown(cancel_futures=True)
 
 
 def readied(trial, names, jobs):
@@ -317,8 +321,14 @@ def arguments():
     return options
 
 
+def stopped(_signal, _frame):
+    sys.exit(130)
+
+
 def main():
     options = arguments()
+    signal.signal(signal.SIGTERM, stopped)
+    signal.signal(signal.SIGINT, stopped)
     with tempfile.TemporaryDirectory() as room:
         try:
             edits = chosen(options.names, options.all)

@@ -74,23 +74,19 @@ class Prover:
         own = folder_of(name).is_dir()
         return (TARGET if own else self.own) / "rlib" / f"{name}.rlib"
 
-    def run(self, verb, name, uses, folder, more):
-        """The exit status, and what was said."""
-        words = [self.program, verb, "--crate-name", name, folder / "src/lib.rt"]
+    def check(self, name, uses, folder, checked):
+        """A check of a crate's folder over a folder of checked modules: the exit status, and what was said."""
+        words = [self.program, "check", "--crate-name", name, folder / "src/lib.rt", "--incremental", checked]
         for use in ["std", *uses]:
             words += ["--extern", f"{use}={self.rlib(use)}"]
         for place in (TARGET / "rlib", self.own / "rlib"):
             words += ["-L", f"dependency={place}"]
-        words += ["--antt-project", self.home / "logic/antt-project.json", "--logic-built", self.own / "logic-built", *more]
+        words += ["--antt-project", self.home / "logic/antt-project.json", "--logic-built", self.own / "logic-built"]
         try:
             done = subprocess.run(words, capture_output=True, text=True, errors="replace", stdin=subprocess.DEVNULL, timeout=LIMIT)
         except subprocess.TimeoutExpired:
             raise Failure(f"the prover did not end within {LIMIT} s") from None
         return done.returncode, done.stdout + done.stderr
-
-    def check(self, name, uses, folder, checked):
-        """A check of a crate's folder over a folder of checked modules."""
-        return self.run("check", name, uses, folder, ["--incremental", checked])
 
     def fill(self, name, checked):
         """Fills a folder with the modules that rt proved of a library."""
