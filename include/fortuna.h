@@ -1,12 +1,43 @@
-/* Fortuna with its pools, timer and seeds, the generator alone, SHA-256, D and AES-256: the static library fortuna_c.
+/* Fortuna with its pools, timer and seeds, the generator alone, SHA-256, D and AES-256: the static library fortuna_c,
+   for x86-64. It calls memcpy and memset, and nothing else.
 
    The caller sees to it that a pointer points to as many bytes, or numbers of a list, as its length says and is not
    null, not even at length 0, and that a buffer overlaps nothing else that the same call is lent. Then every call
    returns, and none allocates, keeps a pointer, or reads or changes anything but what it is lent.
 
-   Numbers returned: FORTUNA_DONE, or the number of a refusal, the first in the order of the list below where more than
-   one applies. After a refusal buffers and state are as before; pools emptied are 0. FORTUNA_NONE_DRAWN differs: the
-   call's tries were made, so that the state has advanced, and pools may have been emptied; a list is as before.
+   One call at a time on a state. A call reads the whole state, works, and stores the whole next state, and nothing in
+   the library waits for another call. An event given from an interrupt while a request runs on the same state is
+   answered FORTUNA_DONE and is lost. Two threads that draw from one state at the same time can get equal keys. So let
+   one task own the state, and let interrupts and other threads hand their noise to it: examples/c/station.c does this
+   with a ring buffer. Calls on different states may run at the same time.
+
+   Stack. On x86-64 a call needs at most this many bytes of stack, the caller's copy of what it returns included
+   (tests/compiled/footprint.py measures it; docs/BENCHMARKS.md has the figures):
+
+       fortuna_sha256               2,048
+       fortuna_double_sha256        2,048
+       fortuna_aes256_expand        1,280
+       fortuna_aes256_block         1,024
+       fortuna_generator_new          256
+       fortuna_generator_reseed     2,560
+       fortuna_generator_blocks     1,536
+       fortuna_generator_request    1,536
+       fortuna_new                 12,288
+       fortuna_event                9,216
+       fortuna_request             39,936
+       fortuna_update              43,008
+       fortuna_write               39,936
+       fortuna_random_below        50,176
+       fortuna_shuffle             50,176
+       fortuna_log                266,240
+
+   The library wipes no memory. After a call copies of the state's key K are left on the stack below the caller, also
+   of the K that the next call starts from. Where others may read that memory, wipe it, or run the calls on a stack of
+   their own.
+
+   Numbers returned: FORTUNA_DONE, or the number of a refusal, the first in the order of the list below where more
+   than one applies. After a refusal buffers and state are as before; pools emptied are 0. FORTUNA_NONE_DRAWN differs:
+   the call's tries were made, so that the state has advanced, and pools may have been emptied; a list is as before.
    No call is refused for another reason. */
 #ifndef FORTUNA_H
 #define FORTUNA_H
@@ -137,8 +168,10 @@ typedef struct {
 } fortuna_pool;
 
 /* The state. last_reseed is the clock at the last pool reseed, reseed_count their number modulo 2^32, and reseeded
-   whether one was made. Any values may stand in it, save that a bool's byte is 0 or 1: read a state that was stored
-   field by field, and copy no stray bytes over it. */
+   whether one was made. Any values may stand in it, save that the byte of reseeded is 0 or 1. Another byte there is
+   outside what is proved, and no call looks for it. A page of flash memory that was never written, or only in part, may
+   hold one: before such bytes are copied over a state, see that the one at offsetof(fortuna_state, reseeded) is 0 or 1.
+   A stored state that is taken up twice gives the same keys twice; fortuna_update is made for a restart. */
 typedef struct {
     fortuna_generator generator;
     fortuna_pool pools[32];
@@ -163,7 +196,8 @@ typedef struct {
 /* The state before anything: unseeded, with empty pools. */
 fortuna_state fortuna_new(void);
 
-/* The calls below work on the state that the caller keeps at state, which no buffer may overlap. */
+/* The calls below work on the state that the caller keeps at state, which no buffer may overlap. One call at a time on
+   a state: the top of this file says why. */
 
 /* The pool gains the source in 2 bytes, least significant first, the length in 1 byte, and the length bytes at data. No
    pool is emptied.

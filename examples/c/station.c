@@ -1,12 +1,17 @@
 /* A digitiser from start to stop: the stored seed goes in and its successor is stored before any key is drawn, noise
    goes in as events, link keys, a radio slot and the order of a polling list come out. Noise, clock and flash page are
-   stand-ins, so each run prints the same. */
+   stand-ins, so each run prints the same.
+
+   One call at a time on a state: here the task that runs main owns the state and makes every call. Interrupts only put
+   noise into a ring buffer, and the owner takes it from there between its other calls. */
 #include "fortuna.h"
 
+#include <stdatomic.h>
 #include <stdio.h>
 #include <stdlib.h>
 
 enum { SOURCES = 3, TURNS = 64, DATA = 16, POOLS = 32, SEED = 64, KEY = 32, SLOTS = 100, TRIES = 64, STATIONS = 8 };
+enum { RING = 16 }; /* a power of two, so that the counts below may wrap */
 
 /* A source may be any number up to 65,535. */
 static const uint32_t sources[SOURCES] = {1, 2, 900};
@@ -69,16 +74,53 @@ static void sample(uint32_t source, uint32_t turn, uint8_t data[DATA])
         data[i] = (uint8_t)(89 * source + 31 * turn + 7 * i);
 }
 
-/* Each source goes round the pools by itself. */
+/* Noise on its way from the interrupt to the owner of the state. The interrupt alone moves written, and the owner alone
+   moves taken, so neither waits for the other. Interrupts that can interrupt each other need a ring each. */
+typedef struct {
+    uint32_t source, pool;
+    uint8_t data[DATA];
+} noise;
+
+static noise ring[RING];
+static atomic_uint written, taken;
+
+/* Stands in for an interrupt. It leaves the state alone: while a call of the owner runs, an event given here would be
+   answered FORTUNA_DONE and lost. Noise that finds the ring full is dropped; more will come. */
+static void interrupt(uint32_t source, uint32_t turn)
+{
+    const unsigned at = atomic_load_explicit(&written, memory_order_relaxed);
+    if (at - atomic_load_explicit(&taken, memory_order_acquire) == RING)
+        return;
+    noise *n = &ring[at % RING];
+    n->source = source;
+    n->pool = turn % POOLS; /* each source goes round the pools by itself */
+    sample(source, turn, n->data);
+    atomic_store_explicit(&written, at + 1, memory_order_release);
+}
+
+/* The owner gives the noise that waits to the state, and returns how many events that were. */
+static int take_noise(fortuna_state *f)
+{
+    int count = 0;
+    unsigned at = atomic_load_explicit(&taken, memory_order_relaxed);
+    while (at != atomic_load_explicit(&written, memory_order_acquire)) {
+        const noise *n = &ring[at % RING];
+        must("event", fortuna_event(f, n->source, n->pool, n->data, sizeof n->data));
+        atomic_store_explicit(&taken, ++at, memory_order_release);
+        count++;
+    }
+    return count;
+}
+
 static void gather_noise(fortuna_state *f)
 {
-    uint8_t data[DATA];
-    for (uint32_t turn = 0; turn < TURNS; turn++)
-        for (size_t i = 0; i < SOURCES; i++) {
-            sample(sources[i], turn, data);
-            must("event", fortuna_event(f, sources[i], turn % POOLS, data, sizeof data));
-        }
-    printf("%d events taken\n", SOURCES * TURNS);
+    int count = 0;
+    for (uint32_t turn = 0; turn < TURNS; turn++) {
+        for (size_t i = 0; i < SOURCES; i++)
+            interrupt(sources[i], turn);
+        count += take_noise(f);
+    }
+    printf("%d events taken\n", count);
 }
 
 /* A key, or why there is none: a caller can wait for noise and ask again. */

@@ -1,4 +1,4 @@
-/* Makes the calls of a script on standard input, all on one state, and prints their answers. tests/script.py says how
+/* Makes the calls of a script on standard input, all on one state, and prints their answers. script.py, beside this, says how
    the lines are laid out. */
 #define _POSIX_C_SOURCE 200809L
 #include "fortuna.h"

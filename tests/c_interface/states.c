@@ -1,5 +1,5 @@
 /* Makes single calls on any states: a call with its state on each line of standard input, and what came back on a line
-   of standard output. tests/states_fuzz.py writes the one and reads the other.
+   of standard output. tests/c_interface/states_fuzz.py writes the one and reads the other.
 
    A line is hexadecimal. First a byte for the call: 1 event, 2 request, 3 update, 4 write, 5 draw, 6 shuffle. Then the
    state: key, counter, 32 times a pool's chain, tail and length, then last_reseed, reseed_count and a byte for

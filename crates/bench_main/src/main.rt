@@ -3,6 +3,8 @@ use bench::input::LINE_BUFFER;
 use bench::input::finish;
 use bench::input::step;
 use bench::line::MAX_OUTPUT;
+use libc::EAGAIN;
+use libc::EINTR;
 use libc::STDERR_FILENO;
 use libc::STDIN_FILENO;
 use libc::STDOUT_FILENO;
@@ -16,17 +18,55 @@ struct Session {
     on: bool,
 }
 
-// Writes the first characters of out to standard output, and returns whether that worked; where it did not, standard error is told.
+// Whether to make a read or a write again that has just failed: a signal came first (EINTR), or the descriptor does not wait and
+// had nothing, or no room, yet (EAGAIN). The kit has no poll, so that another process is let run in its place.
+fn passes() -> bool {
+    let error = os::errno();
+    if error == EAGAIN {
+        libc::sched_yield();
+        return true;
+    }
+    error == EINTR
+}
+
+// Whether to go on after a write that answered got; where not, standard error is told why.
+fn took(got: isize) -> bool {
+    if got > 0 {
+        return true;
+    }
+    if got == 0 {
+        io::write_all(STDERR_FILENO, b"bench: standard output takes nothing\n");
+        return false;
+    }
+    if passes() {
+        return true;
+    }
+    os::fail(b"bench: standard output could not be written");
+    false
+}
+
+// Writes all of out to standard output, and returns whether that worked. Nothing says that a descriptor ever takes a byte, so the
+// loop counts its turns down, as run does.
+fn write_out(out: &[u8]) -> bool {
+    let mut done = 0;
+    let mut turns = u64::MAX;
+    while turns > 0 && done < out.len() {
+        turns -= 1;
+        let got = libc::write(STDOUT_FILENO, &out[done..]);
+        if !took(got) {
+            return false;
+        }
+        done += io::count(got, &out[done..]);
+    }
+    done == out.len()
+}
+
+// Writes the first characters of out to standard output, and returns whether that worked.
 fn show(out: &[u8], written: usize) -> bool {
     if written <= out.len() {
-        if io::write_all(STDOUT_FILENO, &out[..written]) {
-            return true;
-        }
+        return write_out(&out[..written]);
     }
-    io::write_all(
-        STDERR_FILENO,
-        b"bench: standard output could not be written\n",
-    );
+    io::write_all(STDERR_FILENO, b"bench: an answer has no room\n");
     false
 }
 
@@ -77,7 +117,14 @@ fn turn(
     let mut chunk = io::large_buffer();
     let got = libc::read(STDIN_FILENO, &mut chunk);
     if got < 0 {
-        io::write_all(STDERR_FILENO, b"bench: standard input could not be read\n");
+        if passes() {
+            return Session {
+                state,
+                held,
+                on: true,
+            };
+        }
+        os::fail(b"bench: standard input could not be read");
         return stopped(state);
     }
     if got == 0 {

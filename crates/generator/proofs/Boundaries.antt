@@ -8,8 +8,17 @@ use Rattle.generator.specs.Steps.{initial, blockCount, generateBlocks, b
 use Rattle.generator.specs.Refusals.{maxRequest, maxSeed, malformed, unseeded, spent, stateNumber, reseedNumber, outputNumber, blocksNumber, requestNumber}
 use Rattle.generator.specs.Boundaries.{keyed, Boundaries}
 
+-- what the rows compute with: numbers and steps; refusals
+stepping : Unit {0}
+unfolding value littleEndian initial blockCount generateBlocks blockData pseudoRandomData keyed
+stepping = tt
+
+refusing : Unit {0}
+unfolding maxCounter maxMessage maxDMessage maxRequest maxSeed allZero malformed unseeded spent stateNumber reseedNumber outputNumber blocksNumber requestNumber
+refusing = tt
+
 pub boundaries : Boundaries
-unfolding value littleEndian maxCounter maxMessage maxDMessage initial blockCount generateBlocks blockData pseudoRandomData maxRequest maxSeed allZero malformed unseeded spent stateNumber reseedNumber outputNumber blocksNumber requestNumber keyed
+unfolding stepping refusing
 boundaries =
     record {
       bytes = refl;

@@ -56,7 +56,8 @@ random-data-closed w n =
     let c = w .count in
     let k = blockCount n in
     rw (block-data-closed w n, blocks-closed 2 (afterBlocks w k))
-    (generated-equal _ _ refl (state-equal _ _ refl (add-assoc c k 2)) (sym (map-join (counters c k) (counters (c + k) 2)) ∙ ap (map counterBlock) (sym (counters-add c k 2))))
+    (generated-equal _ _ refl (state-equal _ _ refl (add-assoc c k 2))
+    (sym (map-join (counters c k) (counters (c + k) 2)) ∙ ap (map counterBlock) (sym (counters-add c k 2))))
 
 -- ---- the trace and what was enciphered
 

@@ -11,6 +11,11 @@ use Rattle.hash.specs.Double.{maxMessage, maxDMessage, maxPoolLength, D}
 use Rattle.hash.specs.Answers.{lengthNumber}
 use Rattle.hash.specs.Boundaries.{messages, digests, passed, PaddingsRow, LengthsRow, MessageLimitRow, DoubleLimitRow, PoolLimitRow, StandardRow, EdgesRow, DoubleRow, FinishesRow, AbsorbsRow, LongestRow, Boundaries}
 
+-- what a digest computes with, named once: whatever unfolds it unfolds all that its own line names
+digesting : Unit {0}
+unfolding tabulate K H⁰ nextWord schedule T₁ T₂ round rounds compress blocks digestFrom zeroBytes padding sha256
+digesting = tt
+
 paddings : PaddingsRow
 unfolding tabulate zeroBytes padding
 paddings = refl
@@ -32,27 +37,27 @@ unfolding lengthNumber maxPoolLength maxDMessage maxMessage
 pool-limit = refl
 
 standard : StandardRow
-unfolding tabulate K H⁰ nextWord schedule T₁ T₂ round rounds compress blocks digestFrom zeroBytes padding sha256 messages digests
+unfolding digesting messages digests
 standard = refl
 
 edges : EdgesRow
-unfolding tabulate K H⁰ nextWord schedule T₁ T₂ round rounds compress blocks digestFrom zeroBytes padding sha256
+unfolding digesting
 edges = refl
 
 double : DoubleRow
-unfolding tabulate K H⁰ nextWord schedule T₁ T₂ round rounds compress blocks digestFrom zeroBytes padding sha256 D
+unfolding digesting D
 double = refl
 
 finishes : FinishesRow
-unfolding tabulate K H⁰ nextWord schedule T₁ T₂ round rounds compress blocks digestFrom zeroBytes padding sha256 finish passed
+unfolding digesting finish passed
 finishes = refl
 
 absorbs : AbsorbsRow
-unfolding tabulate K H⁰ nextWord schedule T₁ T₂ round rounds compress blocks digestFrom zeroBytes padding sha256 absorb absorbFrom zeroFilled passed
+unfolding digesting absorb absorbFrom zeroFilled passed
 absorbs = refl
 
 longest : LongestRow
-unfolding tabulate K H⁰ nextWord schedule T₁ T₂ round rounds compress blocks digestFrom zeroBytes padding sha256 absorb absorbFrom zeroFilled passed
+unfolding digesting absorb absorbFrom zeroFilled passed
 longest = refl
 
 pub boundaries : Boundaries

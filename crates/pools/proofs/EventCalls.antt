@@ -8,7 +8,7 @@ use native.Mathlib.Nat.{mod-eq-of-lt}
 use native.Mathlib.Omega.{arith}
 use lib.Dec.{eqb}
 use lib.ListN.{length, set}
-use lib.Seq.{set-getD}
+use lib.Seq.{set-getD, getD-set-same}
 use borrow.Author.Tests.{eqb-true}
 use Rattle.hash.specs.Hasher.{absorb}
 use Rattle.hash.specs.Double.{maxPoolLength}
@@ -25,6 +25,11 @@ use Rattle.pools.proofs.Outcomes.{gives-done, gives-kept}
 in-range : (pool : ℕ) → pool < poolCount → pool % 32 ≡ pool
 unfolding poolCount
 in-range pool h = mod-eq-of-lt h
+
+-- the pool that a store leaves at its place
+pool-stored : (s : Fortuna) (i : ℕ) (q : Hasher) → length (s .pools) ≡ 32 → i < 32 → poolAt (withPool s i q) i ≡ q
+unfolding poolAt withPool
+pool-stored s i q long h = getD-set-same (s .pools) i q _ (rw long h)
 
 -- k is the number that the code came to
 module _ (s : Fortuna) (source pool : ℕ) (d : List ℕ) (m : Bool) (k : ℕ) (formed : m ≡ malformed s)
@@ -49,7 +54,13 @@ module _ (s : Fortuna) (source pool : ℕ) (d : List ℕ) (m : Bool) (k : ℕ) (
     pub event-effect : (q : Hasher) → q ≡ absorb (poolAt s (pool % 32)) (eventBytes source d)
         → (0 ≡ callEffect s (event source pool d) .emptied)
         × (_≡_ {A = Fortuna}
-        (record { generator = s .generator; pools = set (s .pools) (pool % 32) q; «last_reseed» = s .«last_reseed»; «reseed_count» = s .«reseed_count»; reseeded = s .reseeded })
+        (record {
+          generator = s .generator;
+          pools = set (s .pools) (pool % 32) q;
+          «last_reseed» = s .«last_reseed»;
+          «reseed_count» = s .«reseed_count»;
+          reseeded = s .reseeded;
+        })
         (callEffect s (event source pool d) .next))
         × ([] ≡ callEffect s (event source pool d) .buffer)
     unfolding callEffect addEvent withPool
@@ -58,16 +69,25 @@ module _ (s : Fortuna) (source pool : ℕ) (d : List ℕ) (m : Bool) (k : ℕ) (
   -- t is the code's test for an event that is done: the pool gained, or is the one that stands there
   module _ (t : Bool) (tested : t ≡ eqb k 0) where
     abbrev Comes : Hasher → Type 0
-    Comes q = (k ≡ step s (event source pool d) .number) × (step s (event source pool d) .effect .emptied ≡ 0) × (pool % 32 < 32) × (withPool s (pool % 32) q ≡ step s (event source pool d) .effect .next) × (pool % 32 ≡ pool % 32)
+    Comes q =
+        let after = step s (event source pool d) .effect in
+        (k ≡ step s (event source pool d) .number) × (after .emptied ≡ 0) × (pool % 32 ≡ pool % poolCount)
+        × (withPool s (pool % 32) q ≡ after .next) × (q ≡ poolAt (after .next) (pool % poolCount))
 
-    pub comes-gained : t ≡ true → (q : Hasher) → q ≡ absorb (poolAt s (pool % 32)) (eventBytes source d) → Comes q
-    unfolding withPool
-    comes-gained h q e =
+    pub comes-gained : length (s .pools) ≡ 32 → t ≡ true → (q : Hasher) → q ≡ absorb (poolAt s (pool % 32)) (eventBytes source d) → Comes q
+    unfolding withPool poolCount
+    comes-gained long h q e =
         let given = gives-done s (event source pool d) k t event-number tested tt 0 _ [] h (event-effect (sym tested ∙ h) q e) .0 in
-        (given .0, sym (given .1), omega arith, given .2, refl)
+        (given .0, sym (given .1), refl, given .2, rw (← given .2) (sym (pool-stored s (pool % 32) q long (omega arith))))
 
     pub comes-kept : t ≡ false → (q : Hasher) → q ≡ poolAt s (pool % 32) → Comes q
-    unfolding withPool poolAt
+    unfolding withPool poolAt poolCount
     comes-kept h q e =
         let given = gives-kept s (event source pool d) k t event-number tested tt h .0 in
-        (given .0, sym (given .1), omega arith, rw (e, set-getD (s .pools) (pool % 32) (record { chain = []; tail = []; length = 0 })) (given .2), refl)
+        let none : Hasher = record { chain = []; tail = []; length = 0 } in
+        (given .0, sym (given .1), refl, rw (e, set-getD (s .pools) (pool % 32) none) (given .2), rw (← given .2) e)
+
+-- the place is one of the pools
+pub gain-place : (pool place : ℕ) → place ≡ pool % poolCount → place < 32
+unfolding poolCount
+gain-place pool place e = omega arith

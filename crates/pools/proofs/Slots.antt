@@ -103,11 +103,16 @@ done-both (suc n) f e = absurd (not-zero (rw (eqb·suc-zero n) at e))
     not-zero : suc n ≡ 0 → ⊥
     not-zero h = omega arith
 
-pub draw-law : DrawLaw
-unfolding step outcome effectOf callFound callValue
-draw-law s clock n d e =
-    let p = done-both (callNumber s (draw clock n d)) (tries (tryAt clock) n d s .found) e in
-    rw (p .0) (found-below (tryAt clock) n d s (p .1))
+pub draw-law : (s : Fortuna) (clock n d : ℕ) → DrawLaw s clock n d
+unfolding step outcome effectOf callFound callValue andThen
+draw-law s clock n d =
+    record {
+      answer = λ e. rw e;
+      value = λ e. rw e;
+      below = λ e.
+          let p = done-both (callNumber s (draw clock n d)) (tries (tryAt clock) n d s .found) e in
+          rw (p .0) (found-below (tryAt clock) n d s (p .1));
+    }
 
 module _ (s : Fortuna) (clock : ℕ) (list : List ℕ) where
   shuffle-done :

@@ -2,7 +2,9 @@
 -- Assumes nothing.
 use mathlib.Core.Path.{_≡_}
 use mathlib.Core.List.{List}
-use Prim.Native.Nat.{ℕ, _%_, _<_}
+use Prim.Native.Nat.{ℕ, _%_}
+use Rattle.pools.specs.Events.{poolCount}
+use Rattle.pools.specs.State.{poolAt}
 use Rattle.pools.specs.Effects.{withPool}
 use Rattle.pools.specs.Calls as Calls
 use Rattle.pools.specs.declared.Fortuna.{Fortuna}
@@ -44,9 +46,9 @@ abbrev pub GivesValue : Calls.Outcome Fortuna → Answer → ℕ → ℕ → For
 GivesValue o answer emptied value next =
     (number answer ≡ o .number) × (emptied ≡ o .effect .emptied) × (value ≡ o .value) × (next ≡ o .effect .next)
 
--- what an event comes to on the state s: its number, no pool emptied, and the one pool by which the next state differs from s, at the event's
--- pool modulo 32; refused, the pool that stands there
+-- what an event into a pool comes to on the state s: its number, and no pool emptied; the place is its pool modulo 32, and the next state
+-- differs from s by the pool there alone, which is the one that is told. Refused, that is the pool that stands there
 abbrev pub Gains : Calls.Outcome Fortuna → Fortuna → ℕ → Gain → Type 0
 Gains o s pool g =
-    (number (g .answer) ≡ o .number) × (o .effect .emptied ≡ 0) × (g .place < 32) × (withPool s (g .place) (g .pool) ≡ o .effect .next)
-    × (g .place ≡ pool % 32)
+    (number (g .answer) ≡ o .number) × (o .effect .emptied ≡ 0) × (g .place ≡ pool % poolCount) × (withPool s (g .place) (g .pool) ≡ o .effect .next)
+    × (g .pool ≡ poolAt (o .effect .next) (pool % poolCount))

@@ -12,9 +12,12 @@ use Rattle.pools.specs.Draws.{tries, tryAt}
 use Rattle.pools.specs.Calls.{draw, shuffle, callNumber, step}
 use Rattle.pools.specs.declared.Fortuna.{Fortuna}
 
--- a draw that is done gives a value below n
-abbrev pub DrawLaw : Type 0
-DrawLaw = (s : Fortuna) (clock n d : ℕ) → step s (draw clock n d) .number ≡ 0 → step s (draw clock n d) .value < n
+-- a draw that is not refused answers 0 with the value of its own tries exactly if one of them is below n, and 33 where none is; a value
+-- drawn is below n
+pub record DrawLaw (s : Fortuna) (clock n d : ℕ) : Type 0 where
+  pub answer : callNumber s (draw clock n d) ≡ 0 → step s (draw clock n d) .number ≡ cond (tries (tryAt clock) n d s .found) 0 33
+  pub value : callNumber s (draw clock n d) ≡ 0 → step s (draw clock n d) .value ≡ tries (tryAt clock) n d s .value
+  pub below : step s (draw clock n d) .number ≡ 0 → step s (draw clock n d) .value < n
 
 -- the values that draws for the places p down to 1 give, each below its place + 1, each made in the state that the one before it left
 unfoldable pub drawsOf : {S : Type 0} → (S → Effect S) → ℕ → S → List ℕ

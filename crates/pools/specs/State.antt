@@ -15,7 +15,7 @@ use Rattle.pools.specs.Schedule.{isDue}
 use Rattle.pools.specs.Pool.{malformedPool}
 use Rattle.pools.specs.declared.Fortuna.{Fortuna}
 
--- K, C, time of the last reseed and reseed count 0, no reseed made, pools empty
+-- K, C, time of the last reseed (01's mark) and reseed count (01's reseed number) 0, no reseed made (01's flag clear), pools empty
 unfoldable pub fresh : Fortuna
 fresh =
     record {

@@ -29,7 +29,8 @@ ghost use Rattle.pools.specs.Calls.{event, request, update, write, draw,
 ghost use Rattle.pools.specs.Collected.{Reseedable, Servable};
 ghost use Rattle.pools.specs.Promises.{number, Gives, GivesBytes, Gains};
 
-// The state. last_reseed is the clock at the last pool reseed, reseed_count their number modulo 2^32, reseeded whether one was made.
+// The state. last_reseed is 01's mark: the reading at the last pool reseed. reseed_count is 01's reseed number, kept modulo 2^32.
+// reseeded is 01's flag 'made one already', since the number comes back to 0.
 #[repr(C)]
 pub struct Fortuna {
     pub generator: Generator,

@@ -21,6 +21,7 @@ use Rattle.reference.specs.Agreement.{concreteOutcome}
 use Rattle.reference.specs.Timer.{requests, poolReseeds, reseedsAfter}
 use Rattle.reference.specs.Provenance.{putsInto}
 use Rattle.reference.proofs.Schedule.{used-some}
+use Rattle.reference.proofs.Invariant.{count-is}
 use Rattle.reference.proofs.Moves.{Moved, reseed-moves, request-moves, state-due, state-moves, draw-first, shuffle-first}
 
 -- ---- an accepted call
@@ -58,8 +59,7 @@ effect-shape place b (shuffle clock list) = moved (λ i. refl) (shuffle-moves cl
 -- ---- the count of pools emptied tells whether a pool reseed was made
 
 count-due : (b : Reference) (clock : ℕ) → ltb 0 (referenceCount b clock) ≡ dueAt b clock
-unfolding referenceCount
-count-due b clock = go (dueAt b clock)
+count-due b clock = rw (count-is b clock) (go (dueAt b clock))
   where
     go : (d : Bool) → ltb 0 (cond d (length (usedPools (b .reseeds + 1))) 0) ≡ d
     go true = lt-ltb 0 _ (used-some (b .reseeds + 1))

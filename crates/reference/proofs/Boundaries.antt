@@ -1,17 +1,16 @@
 -- The boundary rows, by computation.
 -- Assumes nothing.
 use mathlib.Core.Path.{refl}
-use Rattle.generator.specs.Steps.{reseed}
-use Rattle.reference.specs.Boundaries.{answers, refusals, withPools, withFirstPool, withTimer, keyedUnseeded, strings4, given, Boundaries}
-use Rattle.reference.proofs.Computing.{answering, adding, emptying, drawing, starting}
+use Rattle.reference.specs.Boundaries.{answers, refusals, withPools, withFirstPool, withKey, withTimer, keyedUnseeded, strings4, given, late, firstSeed, Boundaries}
+use Rattle.reference.proofs.Computing.{answering, adding, emptying, seeding, drawing, starting}
 
 -- what these rows alone compute with
 own : Unit {0}
-unfolding answers refusals withPools withFirstPool withTimer keyedUnseeded strings4 given
+unfolding answers refusals withPools withFirstPool withKey withTimer keyedUnseeded strings4 given late firstSeed
 own = tt
 
 pub boundaries : Boundaries
-unfolding answering adding emptying drawing starting own reseed
+unfolding answering adding emptying seeding drawing starting own
 boundaries =
     record {
       events = refl;
@@ -29,9 +28,18 @@ boundaries =
       tries = refl;
       found = refl;
       order = (refl, refl);
+      late = refl;
+      lateFound = (refl, refl);
+      tryBytes = λ s clock. refl;
+      outcomes = (refl, refl, refl);
+      updateBytes = (refl, refl);
+      writeBytes = (refl, refl);
       refused = (refl, refl, refl, refl, refl, refl, refl, refl);
       poolClauses = refl;
-      lastPool = refl;
+      tails = refl;
+      chains = refl;
+      eachPool = refl;
+      keys = refl;
       timerClauses = refl;
       usedBySix = refl;
       keptNumber = refl;

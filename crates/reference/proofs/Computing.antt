@@ -6,7 +6,7 @@ use Rattle.hash.specs.Hasher.{zeroFilled, emptyHasher, absorbFrom, absorb}
 use Rattle.hash.specs.Sha256.{blocks}
 use Rattle.hash.specs.Double.{maxMessage, maxDMessage, maxPoolLength, emptyPool}
 use Rattle.generator.specs.Counter.{value, littleEndian, maxCounter}
-use Rattle.generator.specs.Steps.{decode, encode, initial, blockCount}
+use Rattle.generator.specs.Steps.{decode, encode, initial, reseed, blockCount}
 use Rattle.generator.specs.Refusals as Generator
 use Rattle.generator.specs.Operations as Operations
 use Rattle.slots.specs.Shuffle.{isIn, hasRepeat, exchange}
@@ -18,8 +18,8 @@ use Rattle.pools.specs.State.{fresh, poolAt, counterOf, anyPool, unseededReseed
 use Rattle.pools.specs.Refusals.{andThen, seedSize, unseeded, spent, eventInput, eventState, eventNumber, requestInput, outputState, requestNumber}
 use Rattle.pools.specs.Refusals.{seedInput, updateState, updateNumber, writeNumber}
 use Rattle.pools.specs.Refusals.{maxBelow, maxTries, maxList, drawInput, drawNumber, listInput, shuffleState, shuffleNumber}
-use Rattle.pools.specs.Effects.{unchanged, withPool, addEvent, withGenerator, nextReseed, poolReseed, reseedIfDue, emptiedBy, randomData}
-use Rattle.pools.specs.Draws.{tries, leaving, after, shuffleFrom, shuffled}
+use Rattle.pools.specs.Effects.{unchanged, withPool, addEvent, withGenerator, nextReseed, poolReseed, reseedIfDue, emptiedBy, randomData, reseedWithSeed, updateSeed, writeSeed}
+use Rattle.pools.specs.Draws.{trySize, tries, leaving, after, shuffleFrom, shuffled, tryAt}
 use Rattle.pools.specs.Calls.{inputBuffer, callNumber, callEffect, callFound, callValue, effectOf, outcome, step}
 use Rattle.reference.specs.Readings.{wholeBlocks, reseededState, seededState}
 
@@ -70,9 +70,14 @@ unfoldable pub emptying : Unit {0}
 unfolding used usedBelow usedPools nextReseed emptiedBy poolReseed reseedIfDue withGenerator randomData
 emptying = tt
 
+-- what a seed call does
+unfoldable pub seeding : Unit {0}
+unfolding reseed reseedWithSeed updateSeed writeSeed
+seeding = tt
+
 -- the rule of draws and shuffles
 unfoldable pub drawing : Unit {0}
-unfolding value leastFrom bitsFor tryValue tries leaving after unchanged maxTries exchange shuffleFrom shuffled
+unfolding value leastFrom bitsFor tryValue trySize tryAt tries leaving after unchanged maxTries exchange shuffleFrom shuffled
 drawing = tt
 
 -- the states that the rows start from

@@ -39,7 +39,9 @@ counters-length c (suc k) = omega (arith, counters-length (c + 1) k)
 Grows : ℕ → Reference → Effect Reference → Type 0
 Grows s b e = e .next .generator .count + b .reseeds ≡ b .generator .count + length (e .trace) + e .next .reseeds + s
 
-request-made : (b : Reference) (t n : ℕ) → referenceRequest b t n .next .generator .count ≡ b .generator .count + cond (dueAt b t) 1 0 + length (referenceRequest b t n .trace)
+request-made :
+    (b : Reference) (t n : ℕ) →
+    referenceRequest b t n .next .generator .count ≡ b .generator .count + cond (dueAt b t) 1 0 + length (referenceRequest b t n .trace)
 unfolding referenceRequest withState closedRandomData rekeyed
 request-made b t n = omega (arith, count-reseed-if-due b t, counters-length (referenceReseedIfDue b t .generator .count) (blockCount n + 2))
 
@@ -97,9 +99,13 @@ update-found b (write t seed) h = refl
 update-found b (draw t n d) h = absurd (true≢false (sym h))
 update-found b (shuffle t list) h = absurd (true≢false (sym h))
 
-step-grows : (place : ℕ) (b : Reference) (c : Call) → Grows (cond (isUpdate c && eqb (referenceStep place b c .number) 0) 1 0) b (referenceStep place b c .effect)
+step-grows :
+    (place : ℕ) (b : Reference) (c : Call) →
+    Grows (cond (isUpdate c && eqb (referenceStep place b c .number) 0) 1 0) b (referenceStep place b c .effect)
 unfolding referenceStep outcome
-step-grows place b c = call-grows (referenceNumber b c) (isUpdate c) (referenceFound b c) (inputBuffer c) b (referenceEffect place b c) (update-found b c) (unfold seedOf in effect-grows place b c)
+step-grows place b c =
+    call-grows (referenceNumber b c) (isUpdate c) (referenceFound b c) (inputBuffer c) b (referenceEffect place b c) (update-found b c)
+    (unfold seedOf in effect-grows place b c)
 
 step-grown : (place : ℕ) (b : Reference) (c : Call)
     → referenceStep place b c .effect .next .generator .count + b .reseeds
@@ -109,16 +115,21 @@ step-grown place b c = unfold Grows in step-grows place b c
 
 -- ---- a run
 
+-- the model's trace
+abbrev traceOf : List (Outcome Reference) → List (List ℕ)
+traceOf os = joined (λ (o : Outcome Reference). o .effect .trace) os
+
 run-counts : (calls : List Call) (place : ℕ) (b : Reference)
     → stateFrom referenceStep place b calls .generator .count + b .reseeds
-    ≡ b .generator .count + length (joined (λ (o : Outcome Reference). o .effect .trace) (runFrom referenceStep place b calls)) + stateFrom referenceStep place b calls .reseeds
+    ≡ b .generator .count + length (traceOf (runFrom referenceStep place b calls)) + stateFrom referenceStep place b calls .reseeds
     + seedsIn calls (runFrom referenceStep place b calls)
 unfolding runFrom stateFrom joined seedsIn
 run-counts [] place b = omega arith
 run-counts (c ∷ calls) place b =
     let first = step-grown place b c in
-    let more = run-counts calls (suc place) (referenceStep place b c .effect .next) in
-    omega (arith, first, more, length-append (referenceStep place b c .effect .trace) (joined (λ (o : Outcome Reference). o .effect .trace) (runFrom referenceStep (suc place) (referenceStep place b c .effect .next) calls)))
+    let next = referenceStep place b c .effect .next in
+    let more = run-counts calls (suc place) next in
+    omega (arith, first, more, length-append (referenceStep place b c .effect .trace) (traceOf (runFrom referenceStep (suc place) next calls)))
 
 -- ---- the station's
 
@@ -129,7 +140,7 @@ seeds-concrete (c ∷ calls) [] = refl
 seeds-concrete (c ∷ calls) (o ∷ os) = ap (λ (n : ℕ). cond (isUpdate c && eqb (o .number) 0) 1 0 + n) (seeds-concrete calls os)
 
 model-counts : (calls : List Call) → referenceAfter calls .generator .count
-    ≡ length (joined (λ (o : Outcome Reference). o .effect .trace) (referenceRun calls)) + (referenceAfter calls .reseeds + seedsIn calls (referenceRun calls))
+    ≡ length (traceOf (referenceRun calls)) + (referenceAfter calls .reseeds + seedsIn calls (referenceRun calls))
 unfolding referenceAfter referenceRun empty initial
 model-counts calls = omega (arith, run-counts calls 0 empty)
 
@@ -140,4 +151,5 @@ counted calls =
     ∙ counter-concrete (referenceAfter calls) (sound-after calls)
     ∙ model-counts calls
     ∙ sym (ap₂ (λ (l : List (List ℕ)) (n : ℕ). length l + n) (blocks-are calls)
-    (ap₂ (λ (m n : ℕ). m + n) (reseeds-after calls (agrees calls .outcomes)) (ap (seedsIn calls) (agrees calls .outcomes) ∙ seeds-concrete calls (referenceRun calls))))
+    (ap₂ (λ (m n : ℕ). m + n) (reseeds-after calls (agrees calls .outcomes))
+    (ap (seedsIn calls) (agrees calls .outcomes) ∙ seeds-concrete calls (referenceRun calls))))

@@ -1,6 +1,6 @@
 -- What holds of the reference model throughout a run.
 -- Assumes nothing.
-use mathlib.Core.Path.{_≡_, refl, ap, subst, _∙_}
+use mathlib.Core.Path.{_≡_, refl, ap, ap₂, subst, _∙_}
 use mathlib.Core.Bool.{Bool, true, false, cond}
 use mathlib.Core.List.{List, [], _∷_, _++_}
 use Prim.Native.Nat.{ℕ, _+_, _≤_, _<_, zero-le}
@@ -14,8 +14,8 @@ use Rattle.laws.proofs.Lists.{joined-append, joined-one, allZero-replicate}
 use Rattle.hash.specs.Double.{maxPoolLength}
 use Rattle.generator.specs.Counter.{maxCounter}
 use Rattle.generator.specs.Steps.{GeneratorState, initial, reseed}
-use Rattle.pools.specs.Schedule.{used}
-use Rattle.reference.specs.Reference.{Accepted, Reference, empty, select, pending, consumedAt, contents, poolContents, dueAt, appendEvent, withState, referenceReseed, referenceReseedIfDue}
+use Rattle.pools.specs.Schedule.{used, usedPools}
+use Rattle.reference.specs.Reference.{Accepted, Reference, empty, select, pending, consumedAt, contents, poolContents, dueAt, appendEvent, withState, referenceReseed, referenceReseedIfDue, referenceCount}
 use Rattle.reference.proofs.Bookings.{Past, past-later, past-append, select-append, new-pending, pending-consumed, pending-gone, pending-stays}
 
 pub record Sound (b : Reference) : Type 0 where
@@ -42,12 +42,27 @@ sound-empty =
       marked = λ h. unfold empty in refl;
     }
 
+-- ---- the model's words, read once: what it notes of an event, and how many pools a reseed uses
+
+pub events-noted :
+    (place : ℕ) (b : Reference) (i : ℕ) (bytes : List ℕ) →
+    appendEvent place b i bytes .events ≡ b .events ++ (record { place = place; pool = i; bytes = bytes; reseedsBefore = b .reseeds } ∷ [])
+unfolding appendEvent
+events-noted place b i bytes =
+    ap₂ {C = List Accepted} (λ (p r : ℕ). b .events ++ (record { place = place; pool = p; bytes = bytes; reseedsBefore = r } ∷ []))
+    (omega arith) (omega arith)
+
+pub count-is : (b : Reference) (clock : ℕ) → referenceCount b clock ≡ cond (dueAt b clock) (length (usedPools (b .reseeds + 1))) 0
+unfolding referenceCount
+count-is b clock = ap (λ (n : ℕ). cond (dueAt b clock) (length (usedPools n)) 0) (omega arith)
+
 -- ---- what a pool holds
 
 pub contents-event : (place : ℕ) (b : Reference) (pool : ℕ) (bytes : List ℕ) (i : ℕ) → poolContents (appendEvent place b pool bytes) i ≡ poolContents b i ++ cond (eqb pool i) bytes []
 unfolding poolContents appendEvent contents
 contents-event place b pool bytes i =
-    ap contents (select-append (pending (b .reseeds) i) (b .events) e)
+    ap (λ (es : List Accepted). contents (select (pending (b .reseeds) i) es)) (events-noted place b pool bytes)
+    ∙ ap contents (select-append (pending (b .reseeds) i) (b .events) e)
     ∙ joined-append (λ (x : Accepted). x .bytes) (select (pending (b .reseeds) i) (b .events)) (cond (pending (b .reseeds) i e) (e ∷ []) [])
     ∙ ap (λ (l : List ℕ). poolContents b i ++ l) (ap (λ (t : Bool). contents (cond t (e ∷ []) [])) (new-pending i e) ∙ one (eqb pool i))
   where
@@ -77,7 +92,7 @@ module _ (b : Reference) (t : ℕ) (p : Past (b .reseeds) (b .events)) where
 pub sound-event : (place : ℕ) (b : Reference) (pool : ℕ) (bytes : List ℕ) → length (poolContents b pool) + length bytes ≤ maxPoolLength → Sound b → Sound (appendEvent place b pool bytes)
 sound-event place b pool bytes h s =
     record {
-      past = unfold appendEvent in past-append (b .reseeds) (b .events) _ (s .past) (omega arith);
+      past = rw (events-noted place b pool bytes) (unfold appendEvent in past-append (b .reseeds) (b .events) _ (s .past) (omega arith));
       fits = λ i. rw (contents-event place b pool bytes i, length-append) (grown i (eqb pool i) (eqb-true pool i));
       counts = unfold appendEvent in s .counts;
       keyed = unfold appendEvent in s .keyed;

@@ -12,7 +12,7 @@ use Rattle.generator.specs.Counter.{maxCounter}
 use Rattle.generator.specs.Steps.{GeneratorState, decode, encode, reseed}
 use Rattle.pools.specs.declared.Fortuna.{Fortuna}
 use Rattle.pools.specs.Refusals.{andThen, seedSize, maxTries}
-use Rattle.pools.specs.Effects.{Effect, poolReseed}
+use Rattle.pools.specs.Effects.{Effect, poolReseed, reseedWithSeed}
 use Rattle.pools.specs.Draws.{Drawn, trySize, tries, shuffleFrom, shuffled}
 use Rattle.pools.specs.Calls.{Call, event, request, update, write, draw, shuffle, readingOf, Outcome, effectOf, outcome, step}
 use Rattle.pools.proofs.Acceptance.{not-spent, request-room, write-room, update-room, draw-passed, shuffle-passed}
@@ -112,7 +112,7 @@ module _ (b : Reference) (s : Sound b) where
   unfolding atReseed beforeReseed
   before-concrete (event source pool content) = refl
   before-concrete (request clock buffer) = refl
-  before-concrete (update clock seed) = reseed-with-seed-concrete b seed s
+  before-concrete (update clock seed) = unfold reseedWithSeed in reseed-with-seed-concrete b seed s
   before-concrete (write clock seed) = refl
   before-concrete (draw clock n d) = refl
   before-concrete (shuffle clock list) = refl

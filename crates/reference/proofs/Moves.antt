@@ -14,7 +14,8 @@ use Rattle.pools.specs.Schedule.{elapsed, isDue}
 use Rattle.pools.specs.Effects.{Effect, unchanged}
 use Rattle.pools.specs.Draws.{trySize, after, leaving, tries, shuffled}
 use Rattle.pools.proofs.EachTry.{Kept, Begun, begun-tries, begun-shuffled}
-use Rattle.reference.specs.Reference.{Reference, poolContents, dueAt, withState, referenceReseed, referenceReseedIfDue, referenceCount, referenceRequest, referenceTry}
+use Rattle.reference.specs.Reference.{Reference, poolContents, waitedAt, dueAt, withState, referenceReseed, referenceReseedIfDue, referenceCount, referenceRequest, referenceTry}
+use Rattle.reference.proofs.Invariant.{count-is}
 use Rattle.reference.proofs.Concrete.{due-is}
 
 -- where d tells whether a pool reseed was made, at a reading
@@ -27,7 +28,7 @@ pub record Moved (b : Reference) (d : Bool) (clock : ℕ) (x : Reference) : Type
 
 pub reseed-moves : (b : Reference) (clock : ℕ) (d : Bool) → Moved b d clock (cond d (referenceReseed b clock) b)
 unfolding referenceReseed
-reseed-moves b clock true = record { reseeds = refl; mark = refl; events = refl }
+reseed-moves b clock true = record { reseeds = refl; mark = omega arith; events = refl }
 reseed-moves b clock false = record { reseeds = omega arith; mark = refl; events = refl }
 
 pub request-moves : (b : Reference) (clock n : ℕ) → Moved b (dueAt b clock) clock (referenceRequest b clock n .next)
@@ -38,7 +39,7 @@ request-moves b clock n =
 
 module _ (b : Reference) (w : GeneratorState) (clock : ℕ) where
   pub state-due : dueAt (withState b w) clock ≡ dueAt b clock
-  unfolding withState dueAt poolContents
+  unfolding withState waitedAt dueAt poolContents
   state-due = refl
 
   pub state-moves : (n : ℕ) → Moved b (dueAt b clock) clock (referenceRequest (withState b w) clock n .next)
@@ -54,15 +55,15 @@ module _ (b : Reference) (w : GeneratorState) (clock : ℕ) where
 -- ---- after it none is due at the same reading
 
 -- no time went by since a reseed
-made-now : (size n clock : ℕ) → isDue size (ltb 0 (n + 1)) clock clock ≡ false
+made-now : (size n mark clock : ℕ) → mark ≡ clock → isDue size (ltb 0 (n + 1)) mark clock ≡ false
 unfolding isDue elapsed
-made-now size n clock =
-    let none : (clock % 2 ^ 32 + (2 ^ 32 - clock % 2 ^ 32)) % 2 ^ 32 ≡ 0 = omega arith in
+made-now size n mark clock e =
+    let none : (clock % 2 ^ 32 + (2 ^ 32 - mark % 2 ^ 32)) % 2 ^ 32 ≡ 0 = omega arith in
     rw (lt-ltb 0 (n + 1) (omega arith), none) (and-false (leb 64 size))
 
 just-reseeded : (b : Reference) (clock : ℕ) → dueAt (referenceReseed b clock) clock ≡ false
 unfolding referenceReseed
-just-reseeded b clock = sym (due-is (referenceReseed b clock) clock) ∙ made-now _ (b .reseeds) clock
+just-reseeded b clock = sym (due-is (referenceReseed b clock) clock) ∙ made-now _ (b .reseeds) _ clock (omega arith)
 
 pub request-quiet : (b : Reference) (clock n : ℕ) → dueAt (referenceRequest b clock n .next) clock ≡ false
 unfolding referenceRequest referenceReseedIfDue
@@ -89,7 +90,7 @@ module _ (clock : ℕ) where
   still = record {
     idle = λ b l h. unfold unchanged in (reseed-moves b clock false, h, refl);
     other = λ b e l q. unfold leaving in q;
-    served = λ b h. (rw h at (request-moves b clock trySize), request-quiet b clock trySize, unfold referenceRequest referenceCount in rw h);
+    served = λ b h. (rw h at (request-moves b clock trySize), request-quiet b clock trySize, unfold referenceRequest in rw (count-is b clock, h));
     next = λ b e f q r h. unfold after in
         let x = q h in
         let y = r (x .1) in

@@ -12,6 +12,7 @@ use Rattle.pools.specs.Effects.{Effect}
 use Rattle.pools.specs.Calls.{Call, event, inputBuffer, outcome, stateFrom}
 use Rattle.reference.specs.Reference.{Accepted, Reference, empty, appendEvent, referenceNumber, referenceEffect, referenceStep, referenceAfter}
 use Rattle.reference.specs.Provenance.{NoEvent}
+use Rattle.reference.proofs.Invariant.{events-noted}
 use Rattle.reference.proofs.Advances.{Shape, appended, moved, effect-shape, outcome-done, outcome-keeps}
 
 -- ---- one event more, or none
@@ -28,7 +29,8 @@ module _ (P : List Accepted → Type 0) (place : ℕ) (b : Reference) (h : P (b 
       (source pool : ℕ) (content : List ℕ) → c ≡ event source pool content → P (b .events ++ (newEvent place b source pool content ∷ []))
 
   shape-keeps : (c : Call) (x : Reference) → Adding c → Shape place b c x → P (x .events)
-  shape-keeps c x k (appended source pool content q e) = rw e (unfold appendEvent in k source pool content q)
+  shape-keeps c x k (appended source pool content q e) =
+      rw (e, events-noted place b pool (eventBytes source content)) (k source pool content q)
   shape-keeps c x k (moved _ a) = rw (a .events) h
 
   step-keeps : (c : Call) → (referenceNumber b c ≡ 0 → Adding c) → P (referenceStep place b c .effect .next .events)
@@ -127,8 +129,10 @@ module _ (before : List Call) (source pool : ℕ) (content : List ℕ) (later : 
   noted = newEvent (length before) (referenceAfter before) source pool content
 
   left-events : left before (event source pool content) later .events ≡ referenceAfter before .events ++ (noted ∷ [])
-  unfolding left referenceStep referenceEffect appendEvent outcome
-  left-events = ap (λ (o : Effect Reference). o .next .events) (outcome-done _ _ _ _ accepted)
+  unfolding left referenceStep referenceEffect outcome
+  left-events =
+      ap (λ (o : Effect Reference). o .next .events) (outcome-done _ _ _ _ accepted)
+      ∙ events-noted (length before) (referenceAfter before) pool (eventBytes source content)
 
   -- it is listed
   pub event-listed : List·Memᴰ noted (referenceAfter (before ++ (event source pool content ∷ later)) .events)

@@ -5,6 +5,7 @@ use mathlib.Core.Logic.{_↔_}
 use mathlib.Core.Bool.{Bool, false, true, cond, _&&_}
 use mathlib.Core.List.{List, [], _∷_, _++_, append-nil}
 use Prim.Native.Nat.{ℕ, suc, _+_, _*_, _/_, _^_, _≤_, _<_}
+use native.Mathlib.Omega.{arith}
 use lib.Dec.{ltb, eqb}
 use lib.ListN.{length}
 use Rattle.generator.specs.Steps.{decode, encode, reseed}
@@ -115,6 +116,7 @@ key-taken calls c e d =
     (takes b (sound-after calls) c (sym (same-number calls c) ∙ e) (p .0) due-now))
 
 pub enters-key : (calls : List Call) (c : Call) → EntersKey calls c
+unfolding reseededBy
 enters-key calls c = record { grows = uses-grow calls c; key = reseed-key calls c; taken = key-taken calls c }
 
 -- ---- each call of a list
@@ -166,15 +168,18 @@ module _ (before : List Call) (source pool : ℕ) (content : List ℕ) (later : 
 
   enters-once :
       (n i : ℕ) →
-      EntersAt whole (length before) n i
-      ↔ ((i ≡ pool) × (n ≡ 2 ^ pool * (reseedsAfter before / 2 ^ pool + 1)) × (n ≤ reseedsAfter whole))
-  enters-once n i = rw (same-reseeds before, same-reseeds whole) (unfold scheduledReseed in enters-booked n i)
+      EntersAt whole (length before) n i ↔ ((i ≡ pool) × (n ≡ scheduledReseed pool (reseedsAfter before)) × (n ≤ reseedsAfter whole))
+  enters-once n i = rw (same-reseeds before, same-reseeds whole) (enters-booked n i)
 
 event-enters :
     (before : List Call) (source pool : ℕ) (content : List ℕ) (later : List Call) → EventEnters before source pool content later
 event-enters before source pool content later =
     record {
-      once = enters-once before source pool content later;
+      once = λ accepted n i.
+          let enters = enters-once before source pool content later accepted n i in (
+            λ a. let h = enters .0 a in (h .0, h .1 ∙ (unfold scheduledReseed in ap (λ (k : ℕ). 2 ^ pool * k) (omega arith)), h .2),
+            λ h. enters .1 (h .0, h .1 ∙ (unfold scheduledReseed in ap (λ (k : ℕ). 2 ^ pool * k) (omega arith)), h .2),
+          );
       own = enters-own before source pool content later;
       never = λ refused. never-enters before (event source pool content) later (λ e. absurd (refused e));
     }

@@ -5,16 +5,16 @@ use Prim.Native.Nat.{ℕ, _+_}
 use lib.ListN.{replicate}
 use Rattle.laws.specs.Lists.{joined}
 use Rattle.generator.specs.Counter.{value, littleEndian}
-use Rattle.generator.specs.Steps.{reseed, generateBlocks, blockCount, blockData, pseudoRandomData}
+use Rattle.generator.specs.Steps.{generateBlocks, blockCount, blockData, pseudoRandomData}
 use Rattle.generator.specs.Closed.{rekeyed, closedRandomData}
 use Rattle.generator.proofs.Steps.{random-data-closed}
 use Rattle.pools.specs.State.{counterOf}
-use Rattle.pools.specs.Effects.{randomData, reseedWithSeed, updateSeed}
+use Rattle.pools.specs.Effects.{randomData}
 use Rattle.pools.specs.Calls.{runFrom, run}
 use Rattle.reference.specs.Reference.{scheduledReseed, scheduled, select, pending, contents, poolContents}
 use Rattle.reference.specs.Reference.{appendEvent, referenceNumber, referenceEffect, referenceStep}
 use Rattle.reference.specs.Readings.{seededState, emptiedAt, filled, bookedAfter, GrowthRow, Readings}
-use Rattle.reference.proofs.Computing.{answering, adding, emptying, starting}
+use Rattle.reference.proofs.Computing.{answering, adding, emptying, seeding, starting}
 
 -- C after a request of n bytes with nothing due
 growth-closed : (n : ℕ) → counterOf (randomData (seededState 1) 0 n .next) ≡ value (littleEndian 16 (1 + (blockCount n + 2)))
@@ -30,9 +30,9 @@ modelling : Unit {0}
 unfolding scheduledReseed scheduled select pending contents poolContents joined appendEvent referenceNumber referenceEffect referenceStep bookedAfter
 modelling = tt
 
--- a seed update whole
+-- the Block steps of a seed update
 updating : Unit {0}
-unfolding reseedWithSeed reseed updateSeed generateBlocks blockData pseudoRandomData
+unfolding seeding generateBlocks blockData pseudoRandomData
 updating = tt
 
 pub readings : Readings

@@ -29,7 +29,7 @@ use Rattle.pools.specs.Effects.{Effect, withPool, withGenerator, addEvent, next
 use Rattle.reference.specs.Reference.{Reference, select, consumedAt, contents, poolContents, dueAt, appendEvent, withState, scheduledDigests, referenceReseed, referenceReseedIfDue, referenceCount, referenceRequest}
 use Rattle.reference.specs.Agreement.{concrete}
 use Rattle.reference.proofs.Schedule.{used-mod, used-pools-mod, joined-used}
-use Rattle.reference.proofs.Invariant.{Sound, contents-event, contents-used, contents-unused, contents-consumed}
+use Rattle.reference.proofs.Invariant.{Sound, count-is, contents-event, contents-used, contents-unused, contents-consumed}
 use Rattle.reference.proofs.Concrete.{pool-concrete, decode-concrete, due-concrete}
 
 -- a model's effect with the state that it says
@@ -83,11 +83,20 @@ module _ (b : Reference) (t : ℕ) (s : Sound b) where
   digest-concrete : (i : ℕ) → i < poolCount → used (b .reseeds + 1) i ≡ true → poolDigest (poolAt (concrete b) i) ≡ D (contents (select (consumedAt (b .reseeds + 1) i) (b .events)))
   digest-concrete i h u = ap poolDigest (pool-concrete b i h) ∙ pool-digest-is (poolContents b i) ∙ ap D (contents-consumed b t (s .past) i u)
 
+  -- the model's D of pool i at reseed n; its words for all of them
+  abbrev bookedDigest : ℕ → ℕ → List ℕ
+  bookedDigest n i = D (contents (select (consumedAt n i) (b .events)))
+
+  digests-are : (n : ℕ) → joined (bookedDigest n) (usedPools n) ≡ scheduledDigests b n
+  unfolding scheduledDigests
+  digests-are n = ap (λ (m : ℕ). joined (bookedDigest n) (usedPools m)) (omega arith)
+
   pub digests-concrete : digests (concrete b) (nextReseed (concrete b)) ≡ scheduledDigests b (b .reseeds + 1)
-  unfolding digests scheduledDigests
+  unfolding digests
   digests-concrete =
       ap (λ (l : List ℕ). joined (λ i. poolDigest (poolAt (concrete b) i)) l) (used-pools-concrete b)
-      ∙ joined-used (λ i. poolDigest (poolAt (concrete b) i)) (λ i. D (contents (select (consumedAt (b .reseeds + 1) i) (b .events)))) (b .reseeds + 1) digest-concrete
+      ∙ joined-used (λ i. poolDigest (poolAt (concrete b) i)) (bookedDigest (b .reseeds + 1)) (b .reseeds + 1) digest-concrete
+      ∙ digests-are (b .reseeds + 1)
 
   emptied-pool : (i : ℕ) → i < poolCount → cond (used (nextReseed (concrete b)) i) emptyPool (poolAt (concrete b) i) ≡ poolOf (poolContents (referenceReseed b t) i)
   emptied-pool i h =
@@ -103,13 +112,17 @@ module _ (b : Reference) (t : ℕ) (s : Sound b) where
   reseed-generator : encode (reseed (decode (concrete b .generator)) (digests (concrete b) (nextReseed (concrete b)))) ≡ encode (reseed (b .generator) (scheduledDigests b (b .reseeds + 1)))
   reseed-generator = ap encode (ap₂ reseed (decode-concrete b s) digests-concrete)
 
+  mark-moves : t ≡ referenceReseed b t .lastReseed
+  unfolding referenceReseed
+  mark-moves = omega arith
+
   pub pool-reseed-concrete : poolReseed (concrete b) t ≡ concrete (referenceReseed b t)
   unfolding poolReseed concrete referenceReseed
   pool-reseed-concrete =
       λ i. record {
         generator = reseed-generator i;
         pools = reseed-pools i;
-        «last_reseed» = t;
+        «last_reseed» = mark-moves i;
         «reseed_count» = next-reseed-concrete b i;
         reseeded = sym (lt-ltb 0 (b .reseeds + 1) (omega arith)) i;
       }
@@ -123,8 +136,8 @@ module _ (b : Reference) (t : ℕ) (s : Sound b) where
       go false = refl
 
   emptied-by-concrete : emptiedBy (concrete b) t ≡ referenceCount b t
-  unfolding emptiedBy referenceCount
-  emptied-by-concrete = ap₂ (λ (d : Bool) (n : ℕ). cond d n 0) (due-concrete b t) (ap length (used-pools-concrete b))
+  unfolding emptiedBy
+  emptied-by-concrete = ap₂ (λ (d : Bool) (n : ℕ). cond d n 0) (due-concrete b t) (ap length (used-pools-concrete b)) ∙ sym (count-is b t)
 
 -- ---- a request
 

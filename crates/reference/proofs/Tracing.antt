@@ -24,7 +24,7 @@ use Rattle.reference.specs.Timer.{requests}
 use Rattle.reference.specs.Provenance.{Piece, PoolUse, erased, Traced, tracedFresh, dueFor, putsInto, useOf, nextUses, tracedReseed, tracedAccepted, tracedStep, tracedFrom, traced, pieceOf, scheduledUse, scheduledUses}
 use Rattle.reference.proofs.Schedule.{joined-used}
 use Rattle.reference.proofs.Bookings.{select-append, new-pending, new-consumed-later, pending-consumed, pending-gone, pending-stays}
-use Rattle.reference.proofs.Invariant.{Sound, sound-empty}
+use Rattle.reference.proofs.Invariant.{Sound, sound-empty, events-noted}
 use Rattle.reference.proofs.Concrete.{pool-concrete, due-concrete}
 use Rattle.reference.proofs.Simulation.{used-concrete, used-pools-concrete}
 use Rattle.reference.proofs.Moves.{Moved, reseed-moves}
@@ -133,16 +133,20 @@ uses-event es e (suc n) h =
 event-tags :
     (place : ℕ) (t : Traced) (b : Reference) (source pool : ℕ) (content : List ℕ) → Tags t b →
     Tags (tracedAccepted place t (event source pool content)) (appendEvent place b pool (eventBytes source content))
-unfolding tracedAccepted dueFor requests putsInto appendEvent
+unfolding tracedAccepted dueFor requests putsInto
 event-tags place t b source pool content g =
     record {
-      reseeds = g .reseeds;
+      reseeds = unfold appendEvent in g .reseeds;
       pieces = λ i h.
+          rw (events-noted place b pool (eventBytes source content))
+          (unfold appendEvent in
           ap₂ (λ (x y : List Piece). x ++ y) (g .pieces i h) (sym (one i))
           ∙ sym
           (ap (map pieceOf) (select-append (pending (b .reseeds) i) (b .events) e)
-          ∙ map-append pieceOf (select (pending (b .reseeds) i) (b .events)) (cond (pending (b .reseeds) i e) (e ∷ []) []));
-      uses = g .uses ∙ sym (uses-event (b .events) e (b .reseeds) (omega arith));
+          ∙ map-append pieceOf (select (pending (b .reseeds) i) (b .events)) (cond (pending (b .reseeds) i e) (e ∷ []) [])));
+      uses =
+          rw (events-noted place b pool (eventBytes source content))
+          (unfold appendEvent in g .uses ∙ sym (uses-event (b .events) e (b .reseeds) (omega arith)));
     }
   where
     e : Accepted

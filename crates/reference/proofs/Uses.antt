@@ -164,7 +164,7 @@ module _ (calls : List Call) (es : List Accepted) (r : ℕ) (uses : traced calls
       record {
         event = c .event;
         listed = c .listed;
-        own = sym (ap (λ (p : Piece). p .place) (c .is)) ∙ a .own;
+        own = omega (arith, ap (λ (p : Piece). p .place) (c .is), a .own);
         pool = sym (a .pool) ∙ ap (λ (u : PoolUse). u .pool) is ∙ sym (eqb-true (c .event .pool) (y .i) (both .0));
         reseedNumber = nn ∙ sym (eqb-true (scheduled (c .event)) (y .n) (both .1));
         reached = omega (arith, nn, y .reached);
@@ -188,5 +188,5 @@ module _ (calls : List Call) (es : List Accepted) (r : ℕ) (uses : traced calls
         inside =
             select-mem (consumedAt (scheduled e) (e .pool)) es e m
             (unfold consumedAt in rw (eq-eqb (e .pool) (e .pool) refl, eq-eqb (scheduled e) (scheduled e) refl));
-        own = refl;
+        own = omega arith;
       }

@@ -2,21 +2,21 @@
 -- first refused value, the order of the numbers, what a refused call leaves, and each clause of 21 with a well-formed neighbour.
 -- Assumes nothing.
 use mathlib.Core.Path.{_≡_}
-use mathlib.Core.Bool.{Bool, true, false, cond}
-use lib.Dec.{eqb}
+use mathlib.Core.Bool.{Bool, true, false, cond, _&&_}
+use lib.Dec.{eqb, ltb}
 use mathlib.Core.List.{List, [], _∷_, _++_, map}
 use Prim.Native.Nat.{ℕ, _+_, _-_, _^_}
 use lib.ListN.{length, getD, take, replicate, set}
 use Rattle.laws.specs.Lists.{tabulate}
 use Rattle.hash.specs.Double.{D, emptyPool}
 use Rattle.hash.specs.declared.hasher.Hasher.{Hasher}
-use Rattle.generator.specs.Steps.{GeneratorState, encode, reseed}
+use Rattle.generator.specs.Steps.{GeneratorState, encode, reseed, pseudoRandomData}
 use Rattle.pools.specs.declared.Fortuna.{Fortuna}
 use Rattle.pools.specs.Schedule.{usedPools}
-use Rattle.pools.specs.Effects.{Effect}
-use Rattle.pools.specs.Draws.{Drawn, tries, shuffled}
+use Rattle.pools.specs.Effects.{Effect, randomData}
+use Rattle.pools.specs.Draws.{Drawn, tries, shuffled, tryAt}
 use Rattle.pools.specs.State.{fresh, poolAt, counterOf, malformed}
-use Rattle.pools.specs.Calls.{Call, event, request, update, write, draw, shuffle, callNumber, Outcome, step}
+use Rattle.pools.specs.Calls.{Call, event, request, update, write, draw, shuffle, callNumber, Outcome, outcome, step}
 use Rattle.reference.specs.Readings.{wholeBlocks, reseededState, seededState}
 
 -- the number that a state answers a call with
@@ -37,7 +37,18 @@ withPools s ps =
 unfoldable pub withFirstPool : Fortuna → Hasher → Fortuna
 withFirstPool s p = withPools s (set (s .pools) 0 p)
 
--- a fresh state's neighbour with another K, C, time, count and flag
+-- a fresh state's neighbour with another K
+unfoldable pub withKey : List ℕ → Fortuna
+withKey key =
+    record {
+      generator = encode (record { key = key; count = 0 });
+      pools = fresh .pools;
+      «last_reseed» = 0;
+      «reseed_count» = 0;
+      reseeded = false;
+    }
+
+-- and one with the first byte of K, C, time, count and flag
 unfoldable pub withTimer : ℕ → ℕ → ℕ → ℕ → Bool → Fortuna
 withTimer key c last count made =
     record {
@@ -160,9 +171,26 @@ PoolClausesRow =
     ∷ [])
     ≡ false ∷ false ∷ true ∷ false ∷ true ∷ true ∷ false ∷ true ∷ true ∷ []
 
--- and in the last pool too
-abbrev pub LastPoolRow : Type 0
-LastPoolRow = malformed (withPools fresh (set (fresh .pools) 31 (wholeBlocks (2 ^ 61)))) ≡ true
+-- a byte that is not zero at each place of a tail of 2 bytes
+abbrev pub TailRow : Type 0
+TailRow =
+    tabulate
+    (λ (i : ℕ). malformed (withFirstPool fresh (record { chain = replicate 8 0; tail = set (replicate 64 0) i 1; length = 66 }))) 64
+    ≡ false ∷ false ∷ replicate 62 true
+
+-- another word at each place of the running hash, below 64 bytes
+abbrev pub ChainRow : Type 0
+ChainRow =
+    tabulate (λ (i : ℕ). malformed (withFirstPool fresh (record { chain = set (emptyPool .chain) i 0; tail = replicate 64 0; length = 0 }))) 8
+    ≡ replicate 8 true
+
+-- in each of the pools
+abbrev pub EachPoolRow : Type 0
+EachPoolRow = tabulate (λ (i : ℕ). malformed (withPools fresh (set (fresh .pools) i (wholeBlocks (2 ^ 61))))) 32 ≡ replicate 32 true
+
+-- 21: C = 0 with a byte of K not zero, at each place
+abbrev pub KeyRow : Type 0
+KeyRow = tabulate (λ (i : ℕ). malformed (withKey (set (replicate 32 0) i 1))) 32 ≡ replicate 32 true
 
 -- 21, the others: C = 0 with K not all zero; C = 0 with the flag set; the flag clear with time or count not 0
 abbrev pub TimerClausesRow : Type 0
@@ -218,6 +246,50 @@ OrderRow =
     (shuffled given (10 ∷ 11 ∷ 12 ∷ 13 ∷ []) 0 .effect .buffer ≡ 12 ∷ 11 ∷ 10 ∷ 13 ∷ [])
     × (shuffled given (10 ∷ 11 ∷ 12 ∷ 13 ∷ []) 0 .effect .next ≡ 4)
 
+-- a server that answers with 0, then 64 times with 3, then with 0 for ever
+unfoldable pub late : ℕ → Effect ℕ
+late i =
+    record { emptied = 0; buffer = cond (ltb 0 i && ltb i 65) 3 0 ∷ 0 ∷ 0 ∷ 0 ∷ []; next = i + 1; trace = [] }
+
+-- place 2 below 3 takes no 3: from server 1 on its 64th try finds a value; from server 0 on none does, though place 3 was drawn, and
+-- the list is as it was
+abbrev pub LateRow : Type 0
+LateRow =
+    map (λ (i : ℕ). shuffled late (10 ∷ 11 ∷ 12 ∷ 13 ∷ []) i .effect .buffer) (0 ∷ 1 ∷ []) ≡ (10 ∷ 11 ∷ 12 ∷ 13 ∷ []) ∷ (11 ∷ 12 ∷ 10 ∷ 13 ∷ []) ∷ []
+
+abbrev pub LateFoundRow : Type 0
+LateFoundRow =
+    (map (λ (i : ℕ). shuffled late (10 ∷ 11 ∷ 12 ∷ 13 ∷ []) i .found) (0 ∷ 1 ∷ []) ≡ false ∷ true ∷ [])
+    × (map (λ (i : ℕ). shuffled late (10 ∷ 11 ∷ 12 ∷ 13 ∷ []) i .effect .next) (0 ∷ 1 ∷ []) ≡ 65 ∷ 67 ∷ [])
+
+-- a try is a request for 4 bytes
+abbrev pub TryRow : Type 0
+TryRow = (s : Fortuna) (clock : ℕ) → tryAt clock s ≡ randomData s clock 4
+
+-- what a call comes to, from the number that refuses it: done and a value found; done and none found; refused
+abbrev pub OutcomeRow : Type 0
+OutcomeRow =
+    (outcome 0 true 9 (7 ∷ []) 2 (given 0) ≡ record { number = 0; value = 9; effect = given 0 })
+    × (outcome 0 false 9 (7 ∷ []) 2 (given 0) ≡ record { number = 33; value = 9; effect = given 0 })
+    × (outcome 24 false 9 (7 ∷ []) 2 (given 0)
+    ≡ record { number = 24; value = 0; effect = record { emptied = 0; buffer = 7 ∷ []; next = 2; trace = [] } })
+
+-- the seed calls, from K and C: an update of a fresh state reseeds with the 64 bytes, and 64 bytes follow; a write is these alone
+unfoldable pub firstSeed : List ℕ
+firstSeed = tabulate (λ (i : ℕ). i) 64
+
+abbrev pub UpdateBytesRow : Type 0
+UpdateBytesRow =
+    let w : GeneratorState = record { key = D (replicate 32 0 ++ firstSeed); count = 1 } in
+    (step fresh (update 0 firstSeed) .effect .buffer ≡ pseudoRandomData w 64 .bytes)
+    × (step fresh (update 0 firstSeed) .effect .next .generator ≡ encode (pseudoRandomData w 64 .next))
+
+abbrev pub WriteBytesRow : Type 0
+WriteBytesRow =
+    let w : GeneratorState = record { key = replicate 32 1; count = 1 } in
+    (step (seededState 1) (write 0 firstSeed) .effect .buffer ≡ pseudoRandomData w 64 .bytes)
+    × (step (seededState 1) (write 0 firstSeed) .effect .next .generator ≡ encode (pseudoRandomData w 64 .next))
+
 -- the reseed number is kept modulo 2^32
 abbrev pub KeptNumberRow : Type 0
 KeptNumberRow =
@@ -247,9 +319,18 @@ pub record Boundaries : Type 0 where
   pub tries : TriesRow
   pub found : FoundRow
   pub order : OrderRow
+  pub late : LateRow
+  pub lateFound : LateFoundRow
+  pub tryBytes : TryRow
+  pub outcomes : OutcomeRow
+  pub updateBytes : UpdateBytesRow
+  pub writeBytes : WriteBytesRow
   pub refused : RefusedRow
   pub poolClauses : PoolClausesRow
-  pub lastPool : LastPoolRow
+  pub tails : TailRow
+  pub chains : ChainRow
+  pub eachPool : EachPoolRow
+  pub keys : KeyRow
   pub timerClauses : TimerClausesRow
   pub usedBySix : UsedRow
   pub keptNumber : KeptNumberRow

@@ -1,6 +1,8 @@
 -- The reference model (01's plain logbook): a run worked out from the calls' arguments alone. It takes nothing of a Fortuna state or of
--- its answers. Shared with the station are only the refusal chains over plain values, `eventBytes`, `usedPools`, `D`, the generator's steps and the
--- rule of draws and shuffles.
+-- its answers. Text that it shares with the station is invisible to agreement, so rows and laws check it by itself (docs/PROOFS.md, 'What
+-- model and station share'): the refusal chains over plain values, with `seedSize`; `eventBytes`; `usedPools`; `D`, and the generator's
+-- `initial` and `reseed`; the rule of draws and shuffles, `tries` and `shuffled`, with `trySize`; and what a call and a run are,
+-- `inputBuffer`, `unchanged`, `effectOf`, `outcome`, `runFrom`, `stateFrom`. The generator's request it takes in closed form.
 -- Assumes nothing.
 use mathlib.Core.Bool.{Bool, true, false, cond, _&&_, _||_}
 use mathlib.Core.List.{List, [], _∷_, _++_}
@@ -65,11 +67,13 @@ contents es = joined (λ e. e .bytes) es
 unfoldable pub poolContents : Reference → ℕ → List ℕ
 poolContents b i = contents (select (pending (b .reseeds) i) (b .events))
 
+-- the reading minus the mark, modulo 2^32
+unfoldable pub waitedAt : Reference → ℕ → ℕ
+waitedAt b clock = (clock % 2 ^ 32 + 2 ^ 32 - b .lastReseed % 2 ^ 32) % 2 ^ 32
+
 -- due: pool 0 holds 64 bytes or more, and R = 0 or the reading minus the mark, modulo 2^32, is above 100
 unfoldable pub dueAt : Reference → ℕ → Bool
-dueAt b clock =
-    leb 64 (length (poolContents b 0))
-    && (eqb (b .reseeds) 0 || ltb 100 ((clock % 2 ^ 32 + 2 ^ 32 - b .lastReseed % 2 ^ 32) % 2 ^ 32))
+dueAt b clock = leb 64 (length (poolContents b 0)) && (eqb (b .reseeds) 0 || ltb 100 (waitedAt b clock))
 
 -- ---- what an accepted call does
 

@@ -2,7 +2,8 @@
 //
 // A line has two letters, what is called and how; a space; bytes in hexadecimal, the call's arguments; a space; and a title.
 // What is printed is the title, a colon, and the answer. Where the first letter is a capital, there is no title, and nothing is
-// printed: the line sets a state for later ones. tests/vectors.py writes the cases, and works out the answers without this program.
+// printed: the line sets a state for later ones. tests/independent/vectors.py writes the cases, and works out
+// the answers without this program.
 mod ciphers;
 mod generators;
 mod hashes;

@@ -1,4 +1,4 @@
-//! A safe wrapper of the proved Fortuna. include/fortuna.h says what each call does.
+//! A safe wrapper of the proved Fortuna. include/fortuna.h says what each call does, and how much stack it needs.
 use std::fmt;
 use std::mem::size_of;
 
@@ -152,6 +152,11 @@ extern "C" {
 }
 
 /// Fortuna with its pools, timer and seeds. It is not `Clone`: two copies would give the same bytes.
+///
+/// One call at a time on a state: a call stores the whole next state, so that of two calls at once one would be
+/// lost, and two draws could give equal keys. Every call takes `&mut self`, so that safe code can't make two at once.
+/// Let one task own the value, and let interrupts and other threads hand it their noise through a queue, such as a
+/// ring buffer (examples/c/station.c) or a channel.
 pub struct Fortuna {
     state: State,
 }

@@ -1,6 +1,9 @@
 //! A digitiser from start to stop: the stored seed goes in and its successor is stored before any
 //! key is drawn, noise goes in as events, link keys, a radio slot and the order of a polling list
 //! come out. Noise, clock and flash page are stand-ins, so that each run prints the same.
+//!
+//! One call at a time on a state: `main` owns it, and each call borrows it alone. Noise from interrupts or other
+//! threads would come through a queue.
 use fortuna::{run_log, Drawn, Fortuna, Refusal};
 
 /// A source may be any number up to 65,535.

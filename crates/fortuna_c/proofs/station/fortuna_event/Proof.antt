@@ -42,6 +42,7 @@ use Rattle.hash.proofs.hasher.Hasher as R
 use Rattle.hash.proofs.hasher.Hasher.Laws as R′
 use Rattle.pools.specs.Promises.{number, Gains}
 use Rattle.pools.specs.Effects.{withPool}
+use Rattle.pools.proofs.EventCalls.{gain-place}
 use Rattle.pools.specs.Calls.{Outcome, event, step}
 use Rattle.pools.specs.declared.Fortuna.{Fortuna}
 use Rattle.pools.proofs.Fortuna as T
@@ -164,7 +165,7 @@ module _ {M : Type 1} (𝓤 : URA M) (H : Heap 𝓤) (A : Atoms 𝓤) (W : Given
         move ! (1 ∷ []) $ facts ! Y.the-row (Is Y.the-row) (shows 𝓤 H A Y.the-row) r (u₁ ∷ []) (λ is. land ! (from ! (stop !)) (init ! 10 refl (LL.lawful Y.the-type Y′.the-laws 𝓤 H A W .typed r _ is .0)) $
         rewrite ! 10 (λ (z : Val). ‵ (fat fullShare Y′.mir l₆ 0 z)) (ap only (LL.tells Y.the-type Y′.the-laws r (u₁ ∷ []) is)) refl $
         assigns ! (addr ! (from ! (hop ! (look ! 20 refl) (stop !)))) (from ! (stop !)) (init ! 6 refl (tt, tt)) $
-        move ! (1 ∷ 2 ∷ 3 ∷ []) $ use3 W (raw (Put 𝓤 H A mem run .pre (to-put r))) (goes-put r (e .2) u₁ is) $
+        move ! (1 ∷ 2 ∷ 3 ∷ []) $ use3 W (raw (Put 𝓤 H A mem run .pre (to-put r))) (goes-put r (gain-place p (r .place) (e .2)) u₁ is) $
         calls-at ! fm (Put 𝓤 H A mem run) known-put (to-put r) (and-then ! (load ! (from ! (stop !)) (look ! 4 refl)) (and-then ! (load ! (from ! (fld ! refl (stop !))) (look-in ! 8 (sub ! 1 refl (whole !)))) (and-then ! (load ! (from ! (fld ! refl (stop !))) (look-in ! 8 (sub ! 2 refl (whole !)))) (no-more !)))) (λ u₂. use1 W (later (some (λ (k : Unit {0}). ((‵ (flft κ q) ⊛ ‵ ftrue) ⊛ ‵ (unit .own k (u₂ ∷ []))) ⊛ raw (ensured 𝓤 H A put-pool.ended (put-pool.clauses 𝓤 H A mem run) (κ, tt) (ref, (r .place, (r .pool, tt))) tt k)))) (id⊢ 𝓤 _) $ await ! tt $ pick ! (λ k. split ! $
         move ! (1 ∷ []) $ use1 W (some (λ (zs : Fortuna × (Unit {0} × (Unit {0} × Unit {0}))). ‵ (lasts put-pool.ended (κ, tt) (ref, (r .place, (r .pool, tt))) zs) ⊛ raw (fact 𝓤 (zs .0 ≡ withPool h (r .place) (r .pool))))) (id⊢ 𝓤 _) $ pick ! (λ zs. split ! $
         move ! (1 ∷ []) $ heard ! (zs .0 ≡ withPool h (r .place) (r .pool)) (λ e₂. fsplit ! $ move ! (2 ∷ []) $ split ! $

@@ -3,6 +3,7 @@
 use mathlib.Core.Path.{sym}
 use Rattle.pools.specs.Effects.{withPool}
 use borrow.Author.Needs.{needs}
+use Rattle.pools.proofs.EventCalls.{gain-place}
 use Rattle.pools.proofs.Fortuna.add_event.Statement.{statement}
 use Rattle.pools.proofs.Fortuna.add_event.Tie as tie
 
@@ -10,10 +11,10 @@ gain-of-requires : tie.Need-gain-of-requires
 gain-of-requires c κs = search needs
 
 mul-held : tie.Need-mul-held
-mul-held c = search needs
+mul-held c = search (needs, gain-place _ _ (c .before .gain-of .ensures .2))
 
 element-set-from-held : tie.Need-element-set-from-held
-element-set-from-held c = search needs
+element-set-from-held c = search (needs, gain-place _ _ (c .before .gain-of .ensures .2))
 
 returns : tie.Need-returns
 unfolding withPool

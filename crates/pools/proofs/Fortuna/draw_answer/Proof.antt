@@ -15,7 +15,10 @@ draw-answer-requires : tie.Need-draw-answer-requires
 draw-answer-requires c κs = search needs
 
 returns : tie.Need-returns
-returns c = draw-number (c .before .before .before .args .self) (c .before .before .before .args .clock) _ _ _ (c .before .before .is-malformed .ensures) (c .before .is-due .ensures) _ _ (c .draw-answer .ensures)
+returns c =
+    let formed = c .before .before in
+    let a = formed .before .args in
+    draw-number (a .self) (a .clock) _ _ _ (formed .is-malformed .ensures) (c .before .is-due .ensures) _ _ (c .draw-answer .ensures)
 
 pub draw-answer-spec : {M : Type 1} → statement M
 draw-answer-spec =

@@ -49,9 +49,11 @@ loop-again c =
     let at = c .before .before .before .before .before .loop in
     let start = c .before .before .before .before .before .before .before .before .before .before in
     let below = c .before .before .before .before .loop-test .taken in
+    let ps = start .args .t1 .pools in
+    let looked = c .before .pool-malformed .ensures in
     ⊎-elim
-    (λ w. checked-found (start .args .t1 .pools) _ (at .malformed) _ _ (at .k) (full start) below (c .before .pool-malformed .ensures) (at .inv) (w .0 .taken) (w .1))
-    (λ w. checked-passed (start .args .t1 .pools) _ (at .malformed) _ _ (at .k) (full start) below (c .before .pool-malformed .ensures) (at .inv) (w .0 .left) (w .1))
+    (λ w. checked-found ps _ (at .malformed) _ _ (at .k) (full start) below looked (at .inv) (w .0 .taken) (w .1))
+    (λ w. checked-passed ps _ (at .malformed) _ _ (at .k) (full start) below looked (at .inv) (w .0 .left) (w .1))
     (c .if1 .came)
 
 cast-place : tie.Need-cast-place Inv-loop μ-loop
@@ -72,23 +74,40 @@ is-done-requires c κs = search needs
 gained-requires : tie.Need-gained-requires Inv-loop μ-loop
 unfolding poolAt
 gained-requires c κs =
-    let start = c .before .before .before .before .before .before .before .before .before .before in
-    let formed = checked-all (start .args .t1) _ _ (c .before .before .before .before .before .loop .k) (full start) (c .before .before .before .before .loop-test .left) (c .before .before .before .before .before .before .fields-malformed .ensures) (c .before .before .before .before .before .loop .inv) in
-    event-asks (start .args .t1) (start .args .source) (start .args .pool) (start .args .«data» .now) _ _ formed (c .before .before .event-answer .ensures) (sym (c .before .is-done .ensures) ∙ c .if2 .taken)
+    let asked = c .before .before in
+    let looped = asked .before .before in
+    let at = looped .before .loop in
+    let fields = looped .before .before in
+    let start = fields .before .before .before .before in
+    let a = start .args in
+    let formed = checked-all (a .t1) _ _ (at .k) (full start) (looped .loop-test .left) (fields .fields-malformed .ensures) (at .inv) in
+    event-asks (a .t1) (a .source) (a .pool) (a .«data» .now) _ _ formed (asked .event-answer .ensures) (sym (c .before .is-done .ensures) ∙ c .if2 .taken)
 
 returns : tie.Need-returns Inv-loop μ-loop
 unfolding poolAt
 returns c =
-    let start = c .before .before .before .before .before .before .before .before .before .before .before in
-    let formed = checked-all (start .args .t1) _ _ (c .before .before .before .before .before .before .loop .k) (full start) (c .before .before .before .before .before .loop-test .left) (c .before .before .before .before .before .before .before .fields-malformed .ensures) (c .before .before .before .before .before .before .loop .inv) in
-    comes-gained (start .args .t1) (start .args .source) (start .args .pool) (start .args .«data» .now) _ _ formed (c .before .before .before .event-answer .ensures) _ (c .before .before .is-done .ensures) (c .before .if2 .taken) _ (c .gained .ensures)
+    let tested = c .before .before in
+    let asked = tested .before in
+    let looped = asked .before .before in
+    let at = looped .before .loop in
+    let fields = looped .before .before in
+    let start = fields .before .before .before .before in
+    let a = start .args in
+    let formed = checked-all (a .t1) _ _ (at .k) (full start) (looped .loop-test .left) (fields .fields-malformed .ensures) (at .inv) in
+    comes-gained (a .t1) (a .source) (a .pool) (a .«data» .now) _ _ formed (asked .event-answer .ensures) _ (tested .is-done .ensures) (full start)
+    (c .before .if2 .taken) _ (c .gained .ensures)
 
 returns-2 : tie.Need-returns-2 Inv-loop μ-loop
 unfolding poolAt
 returns-2 c =
-    let start = c .before .before .before .before .before .before .before .before .before .before in
-    let formed = checked-all (start .args .t1) _ _ (c .before .before .before .before .before .loop .k) (full start) (c .before .before .before .before .loop-test .left) (c .before .before .before .before .before .before .fields-malformed .ensures) (c .before .before .before .before .before .loop .inv) in
-    comes-kept (start .args .t1) (start .args .source) (start .args .pool) (start .args .«data» .now) _ _ formed (c .before .before .event-answer .ensures) _ (c .before .is-done .ensures) (c .if2 .left) _ refl
+    let asked = c .before .before in
+    let looped = asked .before .before in
+    let at = looped .before .loop in
+    let fields = looped .before .before in
+    let start = fields .before .before .before .before in
+    let a = start .args in
+    let formed = checked-all (a .t1) _ _ (at .k) (full start) (looped .loop-test .left) (fields .fields-malformed .ensures) (at .inv) in
+    comes-kept (a .t1) (a .source) (a .pool) (a .«data» .now) _ _ formed (asked .event-answer .ensures) _ (c .before .is-done .ensures) (c .if2 .left) _ refl
 
 pub gain-of-spec : {M : Type 1} → statement M
 gain-of-spec =

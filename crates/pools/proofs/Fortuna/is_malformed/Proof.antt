@@ -47,9 +47,11 @@ loop-again c =
     let at = c .before .before .before .before .before .loop in
     let start = c .before .before .before .before .before .before .before .before .before in
     let below = c .before .before .before .before .loop-test .taken in
+    let ps = start .args .t1 .pools in
+    let looked = c .before .pool-malformed .ensures in
     ⊎-elim
-    (λ w. checked-found (start .args .t1 .pools) _ (at .malformed) _ _ (at .k) (full start) below (c .before .pool-malformed .ensures) (at .inv) (w .0 .taken) (w .1))
-    (λ w. checked-passed (start .args .t1 .pools) _ (at .malformed) _ _ (at .k) (full start) below (c .before .pool-malformed .ensures) (at .inv) (w .0 .left) (w .1))
+    (λ w. checked-found ps _ (at .malformed) _ _ (at .k) (full start) below looked (at .inv) (w .0 .taken) (w .1))
+    (λ w. checked-passed ps _ (at .malformed) _ _ (at .k) (full start) below looked (at .inv) (w .0 .left) (w .1))
     (c .if1 .came)
 
 returns : tie.Need-returns Inv-loop μ-loop

@@ -22,18 +22,40 @@ is-done-requires c κs = search needs
 
 serve-requires : tie.Need-serve-requires
 unfolding callNumber
-serve-requires c κs = (c .before .before .before .before .is-due .ensures, request-servable (c .before .before .before .before .before .before .before .args .self) (c .before .before .before .before .before .before .before .args .clock) (length (c .before .before .before .before .before .before .before .args .out .now)) (is-accepted (c .before .before .before .before .before .before .before .args .self) (request (c .before .before .before .before .before .before .before .args .clock) (c .before .before .before .before .before .before .before .args .out .now)) _ _ (request-number (c .before .before .before .before .before .before .before .args .self) (c .before .before .before .before .before .before .before .args .clock) _ _ _ (c .before .before .before .before .before .is-malformed .ensures) (c .before .before .before .before .is-due .ensures) (c .before .before .before .before .before .before .before .args .out .now) (c .before .before .before .request-answer .ensures)) (c .before .before .is-done .ensures) (c .before .if1 .taken)))
+serve-requires c κs =
+    let branch = c .before in
+    let answered = branch .before .before in
+    let due = answered .before in
+    let a = due .before .before .before .args in
+    let formed = due .before .is-malformed .ensures in
+    let number = request-number (a .self) (a .clock) _ _ _ formed (due .is-due .ensures) (a .out .now) (answered .request-answer .ensures) in
+    let ok = is-accepted (a .self) (request (a .clock) (a .out .now)) _ _ number (branch .before .is-done .ensures) (branch .if1 .taken) in
+    (due .is-due .ensures, request-servable (a .self) (a .clock) (length (a .out .now)) ok)
 
 same-length : tie.Need-same-length
 same-length c = search needs
 
 returns : tie.Need-returns
 unfolding callEffect
-returns c = gives-done (c .before .before .before .before .before .before .before .before .before .before .before .args .self) (request (c .before .before .before .before .before .before .before .before .before .before .before .args .clock) (c .before .before .before .before .before .before .before .before .before .before .before .args .out .now)) _ _ (request-number (c .before .before .before .before .before .before .before .before .before .before .before .args .self) (c .before .before .before .before .before .before .before .before .before .before .before .args .clock) _ _ _ (c .before .before .before .before .before .before .before .before .before .is-malformed .ensures) (c .before .before .before .before .before .before .before .before .is-due .ensures) (c .before .before .before .before .before .before .before .before .before .before .before .args .out .now) (c .before .before .before .before .before .before .before .request-answer .ensures)) (c .before .before .before .before .before .before .is-done .ensures) tt _ _ _ (c .before .before .before .before .before .if1 .taken) (c .before .before .before .serve .ensures)
+returns c =
+    let served = c .before .before .before in
+    let branch = served .before .before in
+    let answered = branch .before .before in
+    let due = answered .before in
+    let a = due .before .before .before .args in
+    let formed = due .before .is-malformed .ensures in
+    let number = request-number (a .self) (a .clock) _ _ _ formed (due .is-due .ensures) (a .out .now) (answered .request-answer .ensures) in
+    gives-done (a .self) (request (a .clock) (a .out .now)) _ _ number (branch .before .is-done .ensures) tt _ _ _ (branch .if1 .taken) (served .serve .ensures)
 
 returns-2 : tie.Need-returns-2
 unfolding inputBuffer
-returns-2 c = gives-kept (c .before .before .before .before .before .before .args .self) (request (c .before .before .before .before .before .before .args .clock) (c .before .before .before .before .before .before .args .out .now)) _ _ (request-number (c .before .before .before .before .before .before .args .self) (c .before .before .before .before .before .before .args .clock) _ _ _ (c .before .before .before .before .is-malformed .ensures) (c .before .before .before .is-due .ensures) (c .before .before .before .before .before .before .args .out .now) (c .before .before .request-answer .ensures)) (c .before .is-done .ensures) tt (c .if1 .left)
+returns-2 c =
+    let answered = c .before .before in
+    let due = answered .before in
+    let a = due .before .before .before .args in
+    let formed = due .before .is-malformed .ensures in
+    let number = request-number (a .self) (a .clock) _ _ _ formed (due .is-due .ensures) (a .out .now) (answered .request-answer .ensures) in
+    gives-kept (a .self) (request (a .clock) (a .out .now)) _ _ number (c .before .is-done .ensures) tt (c .if1 .left)
 
 pub random-data-spec : {M : Type 1} → statement M
 random-data-spec =

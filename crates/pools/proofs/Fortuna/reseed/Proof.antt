@@ -42,11 +42,14 @@ returns : tie.Need-returns
 unfolding nextReseed
 returns c =
     let taken = c .before .before .before .before .before .collect-digests in
-    let number = c .before .before .before .before .before .before .before .wrapping-add-u32 in
-    let start = c .before .before .before .before .before .before .before .before in
-    let size : length (taken .result .seed) ≡ 1024 = search needs in (
+    let size : length (taken .result .seed) ≡ 1024 = search needs in
+    let seeded = c .before .before in
+    let numbered = seeded .before .before .before .before .before in
+    let start = numbered .before in
+    let number = numbered .wrapping-add-u32 in
+    let a = start .args in (
       taken .ensures .counted ∙ ap (λ n. length (usedPools n)) (number .ensures),
-      reseed-made (start .args .self) (start .args .clock) (number .result) (taken .result) _ (start .pre) (number .ensures) (taken .ensures) size (c .before .before .reseed .ensures .1),
+      reseed-made (a .self) (a .clock) (number .result) (taken .result) _ (start .pre) (number .ensures) (taken .ensures) size (seeded .reseed .ensures .1),
     )
 
 pub reseed-spec : {M : Type 1} → statement M

@@ -10,7 +10,10 @@ use Rattle.pools.proofs.Fortuna.serve.Statement.{statement}
 use Rattle.pools.proofs.Fortuna.serve.Tie as tie
 
 reseed-requires : tie.Need-reseed-requires
-reseed-requires c κs = reseedable (c .before .before .args .self) (c .before .before .args .clock) (length (c .before .before .args .out .now)) (c .before .before .pre .1) (sym (c .before .before .pre .0) ∙ c .if1 .taken)
+reseed-requires c κs =
+    let start = c .before .before in
+    let a = start .args in
+    reseedable (a .self) (a .clock) (length (a .out .now)) (start .pre .1) (sym (start .pre .0) ∙ c .if1 .taken)
 
 pseudo-random-data-requires : tie.Need-pseudo-random-data-requires
 pseudo-random-data-requires c κs = search needs
@@ -20,10 +23,13 @@ same-length c = search needs
 
 returns : tie.Need-returns
 returns c =
-    let a = c .before .before .before .before .before .before .before .args in
-    let p = c .before .before .before .before .before .before .before .pre in
-    let j = c .before .before .before .before .before .if1 in
-    let g = c .before .before .before .pseudo-random-data in
+    let made = c .before .before .before in
+    let joined = made .before .before in
+    let start = joined .before .before in
+    let a = start .args in
+    let p = start .pre in
+    let j = joined .if1 in
+    let g = made .pseudo-random-data in
     let before : (j .self ≡ reseedIfDue (a .self) (a .clock)) × (j .emptied ≡ emptiedBy (a .self) (a .clock)) =
     ⊎-elim
     (λ w. served-due (a .self) (a .clock) (j .self) (j .emptied) (sym (p .0) ∙ w .0 .taken) (w .4 ∙ w .1 .ensures .0, w .3 ∙ w .1 .ensures .1))

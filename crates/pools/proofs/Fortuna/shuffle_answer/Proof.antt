@@ -15,7 +15,10 @@ shuffle-answer-requires : tie.Need-shuffle-answer-requires
 shuffle-answer-requires c κs = search needs
 
 returns : tie.Need-returns
-returns c = shuffle-number (c .before .before .before .before .args .self) (c .before .before .before .before .args .clock) _ _ _ (c .before .before .is-malformed .ensures) (c .before .is-due .ensures) _ (c .shuffle-answer .ensures)
+returns c =
+    let formed = c .before .before in
+    let a = formed .before .before .args in
+    shuffle-number (a .self) (a .clock) _ _ _ (formed .is-malformed .ensures) (c .before .is-due .ensures) _ (c .shuffle-answer .ensures)
 
 pub shuffle-answer-spec : {M : Type 1} → statement M
 shuffle-answer-spec =

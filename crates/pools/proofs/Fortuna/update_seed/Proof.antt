@@ -26,8 +26,15 @@ reseed-requires c κs = search needs
 serve-requires : tie.Need-serve-requires
 unfolding callNumber
 serve-requires c κs =
-    let ok = is-accepted (c .before .before .before .before .before .before .before .before .before .before .before .args .self) (update (c .before .before .before .before .before .before .before .before .before .before .before .args .clock) (c .before .before .before .before .before .before .before .before .before .before .before .args .seed .now)) _ _ (update-number (c .before .before .before .before .before .before .before .before .before .before .before .args .self) (c .before .before .before .before .before .before .before .before .before .before .before .args .clock) _ _ _ (c .before .before .before .before .before .before .before .before .before .is-malformed .ensures) (c .before .before .before .before .before .before .before .before .is-due .ensures) (c .before .before .before .before .before .before .before .before .before .before .before .args .seed .now) (c .before .before .before .before .before .before .update-answer .ensures)) (c .before .before .before .before .before .is-done .ensures) (c .before .before .before .before .if1 .taken) in
-    update-servable (c .before .before .before .before .before .before .before .before .before .before .before .args .self) (c .before .before .before .before .before .before .before .before .before .before .before .args .clock) (c .before .before .before .before .before .before .before .before .before .before .before .args .seed .now) ok _ _ (c .before .before .before .before .before .before .before .before .is-due .ensures) (c .before .before .reseed .ensures .1)
+    let seeded = c .before .before in
+    let branch = seeded .before .before in
+    let answered = branch .before .before in
+    let due = answered .before .before in
+    let a = due .before .before .before .args in
+    let formed = due .before .is-malformed .ensures in
+    let number = update-number (a .self) (a .clock) _ _ _ formed (due .is-due .ensures) (a .seed .now) (answered .update-answer .ensures) in
+    let ok = is-accepted (a .self) (update (a .clock) (a .seed .now)) _ _ number (branch .before .is-done .ensures) (branch .if1 .taken) in
+    update-servable (a .self) (a .clock) (a .seed .now) ok _ _ (due .is-due .ensures) (seeded .reseed .ensures .1)
 
 same-length : tie.Need-same-length
 same-length c = search needs
@@ -35,16 +42,30 @@ same-length c = search needs
 returns : tie.Need-returns
 unfolding callNumber callEffect updateSeed
 returns c =
-    let ok = is-accepted (c .before .before .before .before .before .before .before .before .before .before .before .before .before .before .before .args .self) (update (c .before .before .before .before .before .before .before .before .before .before .before .before .before .before .before .args .clock) (c .before .before .before .before .before .before .before .before .before .before .before .before .before .before .before .args .seed .now)) _ _ (update-number (c .before .before .before .before .before .before .before .before .before .before .before .before .before .before .before .args .self) (c .before .before .before .before .before .before .before .before .before .before .before .before .before .before .before .args .clock) _ _ _ (c .before .before .before .before .before .before .before .before .before .before .before .before .before .is-malformed .ensures) (c .before .before .before .before .before .before .before .before .before .before .before .before .is-due .ensures) (c .before .before .before .before .before .before .before .before .before .before .before .before .before .before .before .args .seed .now) (c .before .before .before .before .before .before .before .before .before .before .update-answer .ensures)) (c .before .before .before .before .before .before .before .before .before .is-done .ensures) (c .before .before .before .before .before .before .before .before .if1 .taken) in
-    gives-done (c .before .before .before .before .before .before .before .before .before .before .before .before .before .before .before .args .self) (update (c .before .before .before .before .before .before .before .before .before .before .before .before .before .before .before .args .clock) (c .before .before .before .before .before .before .before .before .before .before .before .before .before .before .before .args .seed .now)) _ _ (update-number (c .before .before .before .before .before .before .before .before .before .before .before .before .before .before .before .args .self) (c .before .before .before .before .before .before .before .before .before .before .before .before .before .before .before .args .clock) _ _ _ (c .before .before .before .before .before .before .before .before .before .before .before .before .before .is-malformed .ensures) (c .before .before .before .before .before .before .before .before .before .before .before .before .is-due .ensures) (c .before .before .before .before .before .before .before .before .before .before .before .before .before .before .before .args .seed .now) (c .before .before .before .before .before .before .before .before .before .before .update-answer .ensures)) (c .before .before .before .before .before .before .before .before .before .is-done .ensures) tt _ _ _ (c .before .before .before .before .before .before .before .before .if1 .taken)
-    (update-serves (c .before .before .before .before .before .before .before .before .before .before .before .before .before .before .before .args .self) (c .before .before .before .before .before .before .before .before .before .before .before .before .before .before .before .args .clock) (c .before .before .before .before .before .before .before .before .before .before .before .before .before .before .before .args .seed .now) ok _ (c .before .before .before .before .before .before .reseed .ensures .1) _ _ _ (c .before .before .before .serve .ensures))
+    let served = c .before .before .before in
+    let seeded = served .before .before .before in
+    let branch = seeded .before .before in
+    let answered = branch .before .before in
+    let due = answered .before .before in
+    let a = due .before .before .before .args in
+    let formed = due .before .is-malformed .ensures in
+    let number = update-number (a .self) (a .clock) _ _ _ formed (due .is-due .ensures) (a .seed .now) (answered .update-answer .ensures) in
+    let ok = is-accepted (a .self) (update (a .clock) (a .seed .now)) _ _ number (branch .before .is-done .ensures) (branch .if1 .taken) in
+    gives-done (a .self) (update (a .clock) (a .seed .now)) _ _ number (branch .before .is-done .ensures) tt _ _ _ (branch .if1 .taken)
+    (update-serves (a .self) (a .clock) (a .seed .now) ok _ (seeded .reseed .ensures .1) _ _ _ (served .serve .ensures))
 
 same-length-2 : tie.Need-same-length-2
 same-length-2 c = search needs
 
 returns-2 : tie.Need-returns-2
 unfolding inputBuffer
-returns-2 c = gives-kept (c .before .before .before .before .before .before .before .args .self) (update (c .before .before .before .before .before .before .before .args .clock) (c .before .before .before .before .before .before .before .args .seed .now)) _ _ (update-number (c .before .before .before .before .before .before .before .args .self) (c .before .before .before .before .before .before .before .args .clock) _ _ _ (c .before .before .before .before .before .is-malformed .ensures) (c .before .before .before .before .is-due .ensures) (c .before .before .before .before .before .before .before .args .seed .now) (c .before .before .update-answer .ensures)) (c .before .is-done .ensures) tt (c .if1 .left)
+returns-2 c =
+    let answered = c .before .before in
+    let due = answered .before .before in
+    let a = due .before .before .before .args in
+    let formed = due .before .is-malformed .ensures in
+    let number = update-number (a .self) (a .clock) _ _ _ formed (due .is-due .ensures) (a .seed .now) (answered .update-answer .ensures) in
+    gives-kept (a .self) (update (a .clock) (a .seed .now)) _ _ number (c .before .is-done .ensures) tt (c .if1 .left)
 
 pub update-seed-spec : {M : Type 1} → statement M
 update-seed-spec =

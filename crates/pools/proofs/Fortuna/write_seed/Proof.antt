@@ -22,7 +22,15 @@ is-done-requires c κs = search needs
 
 serve-requires : tie.Need-serve-requires
 unfolding callNumber
-serve-requires c κs = (c .before .before .before .before .before .is-due .ensures, write-servable (c .before .before .before .before .before .before .before .before .args .self) (c .before .before .before .before .before .before .before .before .args .clock) (c .before .before .before .before .before .before .before .before .args .seed .now) (is-accepted (c .before .before .before .before .before .before .before .before .args .self) (write (c .before .before .before .before .before .before .before .before .args .clock) (c .before .before .before .before .before .before .before .before .args .seed .now)) _ _ (write-number (c .before .before .before .before .before .before .before .before .args .self) (c .before .before .before .before .before .before .before .before .args .clock) _ _ _ (c .before .before .before .before .before .before .is-malformed .ensures) (c .before .before .before .before .before .is-due .ensures) (c .before .before .before .before .before .before .before .before .args .seed .now) (c .before .before .before .write-answer .ensures)) (c .before .before .is-done .ensures) (c .before .if1 .taken)))
+serve-requires c κs =
+    let branch = c .before in
+    let answered = branch .before .before in
+    let due = answered .before .before in
+    let a = due .before .before .before .args in
+    let formed = due .before .is-malformed .ensures in
+    let number = write-number (a .self) (a .clock) _ _ _ formed (due .is-due .ensures) (a .seed .now) (answered .write-answer .ensures) in
+    let ok = is-accepted (a .self) (write (a .clock) (a .seed .now)) _ _ number (branch .before .is-done .ensures) (branch .if1 .taken) in
+    (due .is-due .ensures, write-servable (a .self) (a .clock) (a .seed .now) ok)
 
 same-length : tie.Need-same-length
 same-length c = search needs
@@ -30,15 +38,29 @@ same-length c = search needs
 returns : tie.Need-returns
 unfolding callNumber callEffect writeSeed
 returns c =
-    let ok = is-accepted (c .before .before .before .before .before .before .before .before .before .before .before .before .args .self) (write (c .before .before .before .before .before .before .before .before .before .before .before .before .args .clock) (c .before .before .before .before .before .before .before .before .before .before .before .before .args .seed .now)) _ _ (write-number (c .before .before .before .before .before .before .before .before .before .before .before .before .args .self) (c .before .before .before .before .before .before .before .before .before .before .before .before .args .clock) _ _ _ (c .before .before .before .before .before .before .before .before .before .before .is-malformed .ensures) (c .before .before .before .before .before .before .before .before .before .is-due .ensures) (c .before .before .before .before .before .before .before .before .before .before .before .before .args .seed .now) (c .before .before .before .before .before .before .before .write-answer .ensures)) (c .before .before .before .before .before .before .is-done .ensures) (c .before .before .before .before .before .if1 .taken) in
-    gives-done (c .before .before .before .before .before .before .before .before .before .before .before .before .args .self) (write (c .before .before .before .before .before .before .before .before .before .before .before .before .args .clock) (c .before .before .before .before .before .before .before .before .before .before .before .before .args .seed .now)) _ _ (write-number (c .before .before .before .before .before .before .before .before .before .before .before .before .args .self) (c .before .before .before .before .before .before .before .before .before .before .before .before .args .clock) _ _ _ (c .before .before .before .before .before .before .before .before .before .before .is-malformed .ensures) (c .before .before .before .before .before .before .before .before .before .is-due .ensures) (c .before .before .before .before .before .before .before .before .before .before .before .before .args .seed .now) (c .before .before .before .before .before .before .before .write-answer .ensures)) (c .before .before .before .before .before .before .is-done .ensures) tt _ _ _ (c .before .before .before .before .before .if1 .taken) (write-serves (c .before .before .before .before .before .before .before .before .before .before .before .before .args .self) (c .before .before .before .before .before .before .before .before .before .before .before .before .args .clock) (c .before .before .before .before .before .before .before .before .before .before .before .before .args .seed .now) ok _ _ _ (c .before .before .before .serve .ensures))
+    let served = c .before .before .before in
+    let branch = served .before .before in
+    let answered = branch .before .before in
+    let due = answered .before .before in
+    let a = due .before .before .before .args in
+    let formed = due .before .is-malformed .ensures in
+    let number = write-number (a .self) (a .clock) _ _ _ formed (due .is-due .ensures) (a .seed .now) (answered .write-answer .ensures) in
+    let ok = is-accepted (a .self) (write (a .clock) (a .seed .now)) _ _ number (branch .before .is-done .ensures) (branch .if1 .taken) in
+    gives-done (a .self) (write (a .clock) (a .seed .now)) _ _ number (branch .before .is-done .ensures) tt _ _ _ (branch .if1 .taken)
+    (write-serves (a .self) (a .clock) (a .seed .now) ok _ _ _ (served .serve .ensures))
 
 same-length-2 : tie.Need-same-length-2
 same-length-2 c = search needs
 
 returns-2 : tie.Need-returns-2
 unfolding inputBuffer
-returns-2 c = gives-kept (c .before .before .before .before .before .before .before .args .self) (write (c .before .before .before .before .before .before .before .args .clock) (c .before .before .before .before .before .before .before .args .seed .now)) _ _ (write-number (c .before .before .before .before .before .before .before .args .self) (c .before .before .before .before .before .before .before .args .clock) _ _ _ (c .before .before .before .before .before .is-malformed .ensures) (c .before .before .before .before .is-due .ensures) (c .before .before .before .before .before .before .before .args .seed .now) (c .before .before .write-answer .ensures)) (c .before .is-done .ensures) tt (c .if1 .left)
+returns-2 c =
+    let answered = c .before .before in
+    let due = answered .before .before in
+    let a = due .before .before .before .args in
+    let formed = due .before .is-malformed .ensures in
+    let number = write-number (a .self) (a .clock) _ _ _ formed (due .is-due .ensures) (a .seed .now) (answered .write-answer .ensures) in
+    gives-kept (a .self) (write (a .clock) (a .seed .now)) _ _ number (c .before .is-done .ensures) tt (c .if1 .left)
 
 pub write-seed-spec : {M : Type 1} → statement M
 write-seed-spec =

@@ -1,8 +1,9 @@
 #!/usr/bin/env python3
-"""The bytes that the program `radio` must write, worked out by tests/station.py: a shuffled polling list, then a slot for each station.
+"""The bytes that the program `radio` must write, worked out by station.py: a shuffled polling list, then a slot for
+each station.
 
-    tests/radio.py                  writes them
-    tests/radio.py --check FILE     exits 1 where FILE differs"""
+    tests/independent/radio.py                  writes them
+    tests/independent/radio.py --check FILE     exits 1 where FILE differs"""
 import sys
 
 import station
@@ -23,5 +24,5 @@ def written():
 
 if sys.argv[1:2] == ["--check"]:
     with open(sys.argv[2], "rb") as stored:
-        sys.exit(0 if stored.read() == written() else f"{sys.argv[2]}: not the bytes that tests/station.py works out")
+        sys.exit(0 if stored.read() == written() else f"{sys.argv[2]}: not the bytes that station.py works out")
 sys.stdout.buffer.write(written())

@@ -1,14 +1,15 @@
 #!/usr/bin/env python3
-"""Scripts (tests/script.py) with draws and shuffles among all other calls, and their answers by tests/logbook.py.
+"""Scripts (script.py, beside this) with draws and shuffles among all other calls, and their answers by
+tests/independent/logbook.py.
 
-    tests/slots.py --long                        prints the long script
-    tests/slots.py --answers < SCRIPT            prints a script's answers
-    tests/slots.py --write DIRECTORY             writes the stored script and its answers
-    tests/slots.py --check DIRECTORY             makes them again and exits 1 where a stored file differs
-    tests/slots.py --against PROGRAM [--seconds S] [--seed N]
-                                                 the long script, then random ones, to tests/c_interface/script.c
-    tests/slots.py --self-test [--seconds S] [--seed N]
-                                                 the same to tests/station.py, with the state left as well
+    slots.py --long                        prints the long script
+    slots.py --answers < SCRIPT            prints a script's answers
+    slots.py --write DIRECTORY             writes the stored script and its answers
+    slots.py --check DIRECTORY             makes them again and exits 1 where a stored file differs
+    slots.py --against PROGRAM [--seconds S] [--seed N]
+                                           the long script, then random ones, to script.c, beside this
+    slots.py --self-test [--seconds S] [--seed N]
+                                           the same to tests/independent/station.py, with the state left as well
 
 Nothing in the long and the stored script comes from chance. Of a shuffle's draws, with 64 tries, chance gives no 33, so
 that the self-test also runs shuffles with few tries; no program does."""
@@ -18,6 +19,8 @@ import sys
 import time
 from collections import Counter
 from pathlib import Path
+
+sys.path += [str(Path(__file__).resolve().parents[1] / folder) for folder in ("independent", "bench")]
 
 import fuzz
 import generator
@@ -236,7 +239,7 @@ def against(program, seconds, seed):
 
 
 class Carried:
-    """Calls of tests/station.py, each on the state that the last left."""
+    """Calls of tests/independent/station.py, each on the state that the last left."""
 
     def __init__(self, start):
         self.state = station.FRESH._replace(key=start.key, count=start.count)
@@ -335,7 +338,7 @@ def main():
     if chosen.against or chosen.self_test:
         return compared(chosen)
     if chosen.check:
-        return check_files(chosen.check, files(), "tests/slots.py")
+        return check_files(chosen.check, files(), "tests/c_interface/slots.py")
     if chosen.write:
         write_files(chosen.write, files())
     else:

@@ -1,11 +1,11 @@
 #!/usr/bin/env python3
 """The cases of the program `vectors`, and the lines that it must print, worked out without it.
 
-    tests/vectors.py FOLDER             writes FOLDER/stdin and FOLDER/stdout
-    tests/vectors.py --check FOLDER     exits 1 where one of them differs, and says where
+    tests/independent/vectors.py FOLDER             writes FOLDER/stdin and FOLDER/stdout
+    tests/independent/vectors.py --check FOLDER     exits 1 where one of them differs, and says where
 
-SHA-256 is Python's hashlib, and for states that hashlib cannot start from tests/sha256.py, written from
-FIPS 180-4; AES-256 is tests/aes256.py, written from FIPS 197, and the generator tests/generator.py. Published values
+SHA-256 is Python's hashlib, and for states that hashlib cannot start from sha256.py beside it, written from
+FIPS 180-4; AES-256 is aes256.py, written from FIPS 197, and the generator generator.py. Published values
 are literals, and each is asserted. Nothing but Python's standard library is needed."""
 import hashlib
 import sys

@@ -1,7 +1,7 @@
 #!/usr/bin/env python3
-"""Compares a bench program with tests/logbook.py on logs made at random.
+"""Compares a bench program with tests/independent/logbook.py on logs made at random.
 
-    tests/fuzz.py PROGRAM [--seconds S] [--seed N]
+    tests/bench/fuzz.py PROGRAM [--seconds S] [--seed N]
 
 Lines lean towards what is near a bound: readings 100 and 101 ms after the mark, pool 0 at 63 and 64 bytes, sources 255,
 256 and 65,535, by either event frame where both can carry them, lines of 254 to 262 characters, seeds of 63 to 65
@@ -12,6 +12,8 @@ import sys
 import tempfile
 import time
 from pathlib import Path
+
+sys.path.append(str(Path(__file__).resolve().parents[1] / "independent"))
 
 import frames
 from logbook import MAX_LINE, MAX_WIDE_LINE, Logbook, answer
@@ -190,7 +192,7 @@ def report(program, log, answers):
     path.write_bytes(short)
     path.with_suffix(".answers").write_bytes(answers(short))
     print(f"FAIL  {difference(program, short, answers)}")
-    print(f"the log is {path}, what tests/logbook.py answers is beside it")
+    print(f"the log is {path}, what tests/independent/logbook.py answers is beside it")
 
 
 def fuzz(program, seconds, seed, writer=Writer, answers=answers_to):

@@ -10,7 +10,7 @@
 Numbers are decimal, bytes lower-case hexadecimal; `-` stands for no bytes and for the empty list. An answer is the
 number, for all but events then the pools emptied, and then the bytes of a request or seed call that was not refused, a
 draw's value, or the list that a shuffle left. Lines are bytes without their LF, and made by the names of the calls, as
-in tests/frames.py; tests/c_interface/script.c reads them too."""
+in tests/independent/frames.py; tests/c_interface/script.c reads them too."""
 from logbook import SEED_SIZE
 
 # ---- lines of calls

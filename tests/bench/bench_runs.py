@@ -1,18 +1,26 @@
 #!/usr/bin/env python3
-"""Runs a bench program on the stored logs and on streams that are hard to read.
+"""Runs a bench program on the stored logs and on streams that are hard to read or to write.
 
-    tests/bench_runs.py PROGRAM      a line for each check; exits 1 where one failed"""
+    tests/bench/bench_runs.py PROGRAM      a line for each check; exits 1 where one failed
+
+It needs gcc for reads and writes that are interrupted (tests/bench/interrupted.c)."""
+import os
+import subprocess
 import sys
+import tempfile
 from functools import partial
 from itertools import chain
 from pathlib import Path
 
+sys.path.append(str(Path(__file__).resolve().parents[1] / "independent"))
+
 from frames import Noise, event, log_of, request, update, wide_event
 from logs import LOGS, answers_to
-from program import Failure, compare, run, run_file, run_in_pieces
+from program import Failure, compare, run, run_file, run_in_pieces, run_on
 
 STORED = Path(__file__).parent / "logs"
 LONG = 5 * 10**6  # characters
+START = 20000  # characters that come a byte at a time: more take long and show nothing new
 
 # A check is a title, a log, its answers, and a way to run a program on the log.
 
@@ -21,13 +29,22 @@ def stored(name):
     return (STORED / f"{name}.log").read_bytes(), (STORED / f"{name}.answers").read_bytes()
 
 
+def start(log, answers):
+    """Its first lines, some START characters, and their answers; the whole of a short log."""
+    if len(log) <= START:
+        return log, answers
+    lines = log[:START].count(b"\n")
+    return (log_of(text.split(b"\n")[:lines]) for text in (log, answers))
+
+
 def stored_checks():
     for name in LOGS:
         log, answers = stored(name)
         yield f"{name}, from a file", log, answers, partial(run_file, path=STORED / f"{name}.log")
         yield f"{name}, through a pipe", log, answers, partial(run, log=log)
-        for size in (1, 7):
-            yield f"{name}, {size} bytes at a time", log, answers, partial(run_in_pieces, log=log, size=size)
+        yield f"{name}, 7 bytes at a time", log, answers, partial(run_in_pieces, log=log, size=7)
+        log, answers = start(log, answers)
+        yield f"start of {name}, a byte at a time", log, answers, partial(run_in_pieces, log=log, size=1)
 
 
 def paused_checks():
@@ -35,6 +52,24 @@ def paused_checks():
     for size in (1, 2, 3, 11):
         title = f"example, {size} bytes at a time, a pause after each"
         yield title, log, answers, partial(run_in_pieces, log=log, size=size, pause=0.005)
+
+
+def interrupted_checks(directory):
+    """EINTR, EAGAIN and short counts at each read and write; then pipes that do not wait."""
+    library = Path(directory) / "interrupted.so"
+    words = ["gcc", "-O2", "-Wall", "-Wextra", "-Werror", "-shared", "-fPIC", "-o", library]
+    subprocess.run([*words, Path(__file__).with_name("interrupted.c")], check=True)
+    environment = os.environ | {"LD_PRELOAD": str(library)}
+    for name in ("example", "no_final_newline", "seeds"):
+        log, answers = stored(name)
+        way = partial(run_on, input=log, env=environment)
+        yield f"{name}, interrupted", log, answers, way
+    log, answers = stored("seeds")
+    way = partial(run_in_pieces, log=log, size=500, pause=0.005, reading_pause=0.005, waits=False)
+    yield "seeds, pipes that do not wait", log, answers, way
+    log = log_of([*Noise("slow reader").filling(64), *(request(0, 65535) for _ in range(10))])
+    way = partial(run_in_pieces, log=log, size=4096, reading_pause=0.005, waits=False)
+    yield "answers read slowly, pipes that do not wait", log, answers_to(log), way
 
 
 def long_lines():
@@ -87,8 +122,9 @@ def main(args):
     if len(args) != 1:
         print(__doc__, file=sys.stderr)
         return 2
-    checks = chain(stored_checks(), paused_checks(), stream_checks())
-    results = [passes(args[0], *check) for check in checks]
+    with tempfile.TemporaryDirectory() as directory:
+        checks = chain(stored_checks(), paused_checks(), stream_checks(), interrupted_checks(directory))
+        results = [passes(args[0], *check) for check in checks]
     failed = results.count(False)
     print(f"{failed} of {len(results)} checks FAILED" if failed else f"{len(results)} checks passed")
     return 1 if failed else 0

@@ -1,8 +1,8 @@
 #!/usr/bin/env python3
-"""What the programs in examples/ must print, worked out by tests/station.py and, for the log, tests/logbook.py.
+"""What the programs in examples/ must print, worked out by station.py and, for the log, logbook.py.
 
-    tests/examples.py                  prints it
-    tests/examples.py --check FILE     exits 1 where FILE differs"""
+    tests/independent/examples.py                  prints it
+    tests/independent/examples.py --check FILE     exits 1 where FILE differs"""
 import io
 import sys
 
@@ -55,7 +55,7 @@ def main(args):
     with open(args[1], encoding="ascii") as stored:
         if stored.read() == text:
             return 0
-    print(f"{args[1]}: not what tests/station.py and tests/logbook.py work out", file=sys.stderr)
+    print(f"{args[1]}: not what station.py and logbook.py in tests/independent work out", file=sys.stderr)
     return 1
 
 

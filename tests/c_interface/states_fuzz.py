@@ -1,7 +1,7 @@
 #!/usr/bin/env python3
-"""Calls on chosen and random states, made by the library and by tests/station.py, and compared.
+"""Calls on chosen and random states, made by the library and by tests/independent/station.py, and compared.
 
-    tests/states_fuzz.py PROGRAM [--seconds S] [--seed N]
+    tests/c_interface/states_fuzz.py PROGRAM [--seconds S] [--seed N]
 
 PROGRAM is tests/c_interface/states.c linked with the library, which says how a line is laid out. States and arguments
 are biased to the boundaries of every number. Prints how often each number occurred. Exits 1 where an answer differs,
@@ -13,6 +13,9 @@ import sys
 import time
 from collections import Counter
 from dataclasses import dataclass
+from pathlib import Path
+
+sys.path.append(str(Path(__file__).resolve().parents[1] / "independent"))
 
 import station
 from generator import MAX_COUNT, MAX_REQUEST, block_count
@@ -400,7 +403,7 @@ def main():
         difference = compare(program, random.Random(args.seed), args.seconds, tally)
         program.stdin.close()
     if difference:
-        sys.exit(f"{difference}\nstates_fuzz: the library and tests/station.py differ (seed {args.seed})")
+        sys.exit(f"{difference}\nstates_fuzz: the library and tests/independent/station.py differ (seed {args.seed})")
     tally.show()
     missing = list(tally.missing())
     if missing:

@@ -1,26 +1,40 @@
 #!/usr/bin/env python3
-"""The year's checks of docs/CHECKLIST.md, on a bench program.
+"""usage: checklist CHECK [--log FILE] [--out DIRECTORY] [--bench PROGRAM]
 
-    tests/checklist.py april PROGRAM         junk in place of a noise source
-    tests/checklist.py may PROGRAM           cold start from a stored seed
-    tests/checklist.py july PROGRAM          clock set back, then a draw every 50 ms
-    tests/checklist.py october PROGRAM       keys worked out again from the logged calls
-    tests/checklist.py year PROGRAM          all four
+The year's checks of docs/CHECKLIST.md. CHECK is one of
 
-Each ends with a line 'NAME: pass' or 'NAME: FAIL: why'; the exit status is 1 where one failed. The logs, and the
-program's answers to them, stay in the directory given by --out, else in a new one, which is named. With --log FILE,
-october takes a log that a station wrote."""
-import argparse
+  april      junk in place of a noise source
+  may        cold start from a stored seed
+  july       clock set back, then a draw every 50 ms
+  october    keys worked out again from the logged calls
+  year       all four
+
+Each check ends with a line 'NAME: pass' or 'NAME: FAIL: why'. The logs and their answers stay in a directory, which
+is named at the end.
+
+  --log FILE          october: a log that a station wrote, in place of a made one
+  --out DIRECTORY     where logs and answers stay; without it a new temporary directory
+  --bench PROGRAM     checks this program; without it the bench of this repository, which is proved and built first
+  --help              prints this
+
+Exit status: 0 all checks passed; 1 one failed, or the bench could not be built; 2 bad arguments, or FILE can't be read.
+"""
 import io
 import re
+import subprocess
 import sys
 import tempfile
+from collections import Counter
 from pathlib import Path
 
-from frames import HEADER, Noise, event, log_of, request, update, write
+ROOT = Path(__file__).resolve().parents[2]
+sys.path.append(str(ROOT / "tests" / "independent"))
+
+from arguments import Parser
+from frames import HEADER, Noise, event, log_of, request, update, wide_event, write
 from logbook import Event, booked, call_of, lines as lines_of
 from logs import answers_to
-from program import Failure, compare, run
+from program import Failure, compare, run, shortened
 
 KEY = 32  # bytes of a key drawn
 REPLY = re.compile(rb"\d\d( \d\d( [0-9A-F]+)?)?")
@@ -32,32 +46,43 @@ def require(holds, why):
 
 
 class Bench:
-    """A program, the directory where the logs of its runs stay, and a log that a station wrote, if there is one."""
+    """A program, the directory where the logs of its runs stay, and the name and bytes of a log that a station wrote, if
+    there is one."""
 
-    def __init__(self, program, directory, station_log):
+    def __init__(self, program, directory, station_log=None):
         self.program = program
         self.directory = directory
         self.station_log = station_log
 
+    def answers(self, log):
+        return run(self.program, log)
+
     def run(self, name, log):
         """The program's answers, a list with one for each line."""
         (self.directory / f"{name}.log").write_bytes(log)
-        output = run(self.program, log)
+        output = self.answers(log)
         (self.directory / f"{name}.answers").write_bytes(output)
         answers = output.split(b"\n")[:-1]
         count = len(list(lines_of(io.BytesIO(log))))
-        require(len(answers) == count, f"{name}.log has {count} lines, and {len(answers)} were answered")
+        require(len(answers) == count, f"{name}.log has {count} lines, and {len(answers)} answers came")
         for n, reply in enumerate(answers, 1):
-            require(REPLY.fullmatch(reply), f"{name}.answers, line {n}, is no answer")
+            what = "two digits, or 00, two digits and the bytes drawn"
+            require(REPLY.fullmatch(reply), f"{name}.answers, line {n}: expected {what}, found {shortened(reply)}")
         return answers
 
     def work_out_again(self, name):
-        """Holds a run to what tests/logbook.py works out from its log."""
+        """Holds a run to what tests/independent/logbook.py works out from its log."""
         log = (self.directory / f"{name}.log").read_bytes()
         try:
             compare(log, answers_to(log), (self.directory / f"{name}.answers").read_bytes())
         except Failure as why:
             raise Failure(f"{name}.log, {why}") from None
+
+
+def came_due(answers):
+    """Which pools a run brought due: a reseed empties the first ones."""
+    most = max(map(emptied, answers), default=0)
+    return "no pool" if most == 0 else "pool 0" if most == 1 else f"pools 0 to {most - 1}"
 
 
 def emptied(reply):
@@ -134,14 +159,19 @@ def april(bench):
     print(f"Sources {', '.join(map(str, SOURCES))}; {junk}; {TURNS} keys are drawn.")
     lines = list(april_lines(SOURCES))
     answers = bench.run("april", log_of(lines))
-    events = [reply for line, reply in zip(lines, answers) if call_of(line)[0] == "event"]
-    require(set(events) == {b"00"}, "an event was refused")
-    reseeds = [number for number, _ in draws(answers)]
-    require(reseeds == [*range(1, TURNS + 1)], "a key was drawn without a pool reseed")
-    print(f"{len(events)} events, all accepted; a pool reseed before each key.")
-    known = bench.run("april-junk-only", log_of(april_lines({JUNK_SOURCE})))
-    shared = {key for _, key in draws(answers)} & {key for _, key in draws(known)}
-    require(not shared, "a key is one that the junk alone gives")
+    events = 0
+    for n, (line, reply) in enumerate(zip(lines, answers), 1):
+        if call_of(line)[0] == "event":
+            events += 1
+            require(reply == b"00", f"april.log, line {n}: an event was refused: expected '00', found {shortened(reply)}")
+    keys = list(draws(answers))
+    require(len(keys) == TURNS, f"april.log: expected {TURNS} keys, found {len(keys)}")
+    for n, (reseeds, _) in enumerate(keys, 1):
+        require(reseeds == n, f"april.log, key {n}: expected {n} pool reseeds up to it, found {reseeds}")
+    print(f"{events} events, all accepted; a pool reseed before each key; {came_due(answers)} came due.")
+    known = {key for _, key in draws(bench.run("april-junk-only", log_of(april_lines({JUNK_SOURCE}))))}
+    for n, (_, key) in enumerate(keys, 1):
+        require(key not in known, f"april.log: key {n} is one that the junk alone gives (april-junk-only.answers)")
     print("No key is one that the junk alone gives.")
     sample = list(april_sample())
     entered = [enters(bench, lines, answers, place) for place in sample]
@@ -174,39 +204,55 @@ def may_name(n):
 
 
 def power_up(bench, n, seed, keys):
-    """What the update gave, the keys, and what the write at the end gave; before the update nothing comes out."""
+    """What the update gave, the keys, what the write at the end gave, and all answers; nothing comes before the update."""
     name = may_name(n)
     answers = bench.run(name, log_of(may_lines(bytes.fromhex(seed.decode()), keys)))
-    require(answers[:2] == [b"23", b"23"], f"{name}: a draw before the update was not refused with 23")
+    for n in (1, 2):
+        found = shortened(answers[n - 1])
+        require(answers[n - 1] == b"23", f"{name}.log, line {n}: a draw before the update: expected '23', found {found}")
     successor = drawn(answers[2])
     found = [drawn(reply) for reply in answers[3:] if drawn(reply)]
-    require(len(successor) == 128 and successor != seed, f"{name}: the update gave no successor")
-    require(len(found) == (keys + 1 if keys else 0), f"{name}: a draw after the update was refused")
-    return successor, found[:-1], found[-1:]
+    what = f"{name}.log, line 3: the update: expected a seed of 64 bytes that differs from the one that went in"
+    require(len(successor) == 128 and successor != seed, f"{what}, found {shortened(answers[2])}")
+    expected = keys + 1 if keys else 0
+    require(len(found) == expected, f"{name}.log: expected {expected} draws after the update, found {len(found)}")
+    return successor, found[:-1], found[-1:], answers
+
+
+def require_different(what, values):
+    """values are pairs of a name and bytes."""
+    names = {}
+    for name, value in values:
+        require(value not in names, f"{what} of {name} is that of {names.get(value)}")
+        names[value] = name
 
 
 def may(bench):
     print(f"{POWER_UPS} power-ups, each from the seed that the last one stored, with equal readings and noise.")
     stored = Noise("may's first seed").take(64).hex().upper().encode()
-    seeds, keys = [stored], []
+    seeds, keys, all_answers = [("the workshop", stored)], [], []
     for n in range(1, POWER_UPS + 1):
         loses_power = n in (LOST_AFTER_UPDATE, LOST_BEFORE_STORED)
-        successor, found, written = power_up(bench, n, stored, 0 if loses_power else KEYS)
-        keys += found
+        successor, found, written, answers = power_up(bench, n, stored, 0 if loses_power else KEYS)
+        all_answers += answers
+        keys += [(f"{may_name(n)}, key {i}", key) for i, key in enumerate(found, 1)]
         if n == LOST_BEFORE_STORED:
             print(f"Power-up {n}: power lost before the successor was stored; the next one starts from the same seed.")
             continue
         if n == LOST_AFTER_UPDATE:
             print(f"Power-up {n}: power lost after the update; the next one starts from the successor.")
-        seeds += [successor, *written]
+        seeds += [(f"{may_name(n)}, update", successor), *((f"{may_name(n)}, write", seed) for seed in written)]
         # every third station is switched off in good order, and stores what the write gave
         stored = written[0] if written and n % 3 == 0 else successor
-    require(len(set(seeds)) == len(seeds), "a seed came twice")
-    require(len(set(keys)) == len(keys), "two power-ups share a key")
-    require(not any(key in seed for key in keys for seed in seeds), "a key is part of a seed")
+    require_different("the seed", seeds)
+    require_different("the key", keys)
+    for name, key in keys:
+        for other, seed in seeds:
+            require(key not in seed, f"the key of {name} is part of the seed of {other}")
     for n in range(1, POWER_UPS + 1):
         bench.work_out_again(may_name(n))
-    print(f"{len(keys)} keys and {len(seeds)} seeds, no two equal; before each update draws were refused with 23.")
+    print(f"{len(keys)} keys and {len(seeds)} seeds, no two equal; before each update draws were refused with 23;")
+    print(f"{came_due(all_answers)} came due.")
 
 
 # ---- July: clock set back
@@ -235,8 +281,8 @@ class Timer:
         elapsed = 2**32 if self.mark is None else (clock - self.mark) % 2**32
         due = self.held >= 64 and elapsed > 100
         made = emptied(reply) > 0
-        what = f"{title}: draw at {clock} ms, {elapsed} ms after the mark, pool 0 at {self.held} bytes"
-        require(made == due, f"{what}: {'a' if made else 'no'} reseed")
+        what = f"{title}: draw at {clock} ms, {elapsed} ms after the last reseed, pool 0 at {self.held} bytes"
+        require(made == due, f"{what}: expected {'a' if due else 'no'} reseed, found {'one' if made else 'none'}")
         if made:
             self.mark, self.held = clock, 0
         return made
@@ -249,14 +295,14 @@ def july_lines(start, count, fill, noise):
         yield request(start + 50 * i, KEY)
 
 
-def july_phase(title, lines, answers, timer):
+def july_phase(title, first, lines, answers, timer):
     made = []
-    for line, reply in zip(lines, answers):
+    for n, (line, reply) in enumerate(zip(lines, answers), first):
         name, *arguments = call_of(line)
         if name == "event":
             timer.event(*arguments)
         else:
-            made.append(timer.reseeds(arguments[0], reply, title))
+            made.append(timer.reseeds(arguments[0], reply, f"july.log, line {n}, {title}"))
     print(f"{title}: {len(made)} draws, {sum(made)} pool reseeds.")
 
 
@@ -265,39 +311,68 @@ def july(bench):
     noise = Noise("july")
     phases = [(title, list(july_lines(*rest, noise))) for title, *rest in PHASES]
     answers = bench.run("july", log_of(line for _, lines in phases for line in lines))
-    timer = Timer()
+    timer, at = Timer(), 0
     for title, lines in phases:
-        july_phase(title, lines, answers[: len(lines)], timer)
-        answers = answers[len(lines) :]
+        july_phase(title, at + 1, lines, answers[at : at + len(lines)], timer)
+        at += len(lines)
+    print(f"In all {came_due(answers)} came due.")
     bench.work_out_again("july")
 
 
 # ---- October: keys worked out again
 
+NO_FRAMES = (b"", b"0G", b"0107A", b"010703a1", b"06", b"0107", b"0400000000FF", b"01" * 129, b"05" * 130)
+
+
+def refused_lines(noise, time):
+    """A line of each kind that must be refused once the station is seeded: 12, 13, 15, 16. None may leave a trace."""
+    pool, other = noise.below(32), 32 + noise.below(224)
+    yield event(7, other, noise.take(16))
+    yield wide_event(noise.source(), other, noise.take(32))
+    yield event(7, pool, b"")
+    yield event(noise.below(256), pool, noise.take(33))
+    yield wide_event(noise.source(), 0, noise.take(40))
+    yield from (update(time, noise.take(size)) for size in (0, 63, 65))
+    yield from NO_FRAMES
+
+
 def october_lines():
-    """Calls of every kind."""
+    """Calls of every kind, requests of no byte too, and refusals of every kind that a line can give."""
     noise = Noise("october")
     time = 2**32 - 10**5
+    yield from (request(time, 16), write(time), request(time, 0))  # not seeded yet: 23
     for turn in range(1500):
         yield from (noise.event(noise.below(32), 1 + noise.below(32)) for _ in range(noise.below(3)))
         yield from noise.filling(20 + noise.below(40))
+        if turn % 7 == 0:
+            refused = list(refused_lines(noise, time + 60))
+            yield refused[turn // 7 % len(refused)]
         time += 20 + noise.below(120)
         if turn % 50 == 0:
             yield update(time, noise.take(64))
         elif turn % 50 == 25:
             yield write(time)
         else:
-            yield request(time, 16 + noise.below(17))
+            yield request(time, noise.below(33))
+
+
+def refusals(answers):
+    """How many lines were refused, by number."""
+    numbers = Counter(reply[:2].decode() for reply in answers if reply[:2] != b"00")
+    return ", ".join(f"{number}: {count}" for number, count in sorted(numbers.items())) or "none"
 
 
 def october(bench):
-    log = bench.station_log.read_bytes() if bench.station_log else log_of(october_lines())
-    print(f"The draws of {bench.station_log or 'a made log'} are worked out again by tests/logbook.py.")
+    name, log = bench.station_log or ("a made log", log_of(october_lines()))
+    print(f"The draws of {name} are worked out again by tests/independent/logbook.py.")
     answers = bench.run("october", log)
+    print(f"{len(answers)} lines; refused, by number: {refusals(answers)}.")
+    require(set(answers) != {b"16"}, "no line of this log is a frame: is it a log of calls?")
     bench.work_out_again("october")
     keys = list(draws(answers))
+    require(keys, "this log draws no key, so there was nothing to work out again")
     reseeds = sum(emptied(reply) > 0 for reply in answers)
-    print(f"{len(answers)} lines, {reseeds} pool reseeds, {len(keys)} draws: each is what was worked out.")
+    print(f"{reseeds} pool reseeds, {came_due(answers)} came due; {len(keys)} draws: each is what was worked out.")
 
 
 CHECKS = {check.__name__: check for check in (april, may, july, october)}
@@ -313,16 +388,35 @@ def passes(name, bench):
     return True
 
 
+def own_bench():
+    """The bench of this repository, proved and built."""
+    if subprocess.run([ROOT / "bin" / "bench", "/dev/null"]).returncode:
+        raise Failure("the bench could not be built")
+    return ROOT / "target" / "bin" / "bench_main"
+
+
 def main():
-    parser = argparse.ArgumentParser(description=__doc__, formatter_class=argparse.RawDescriptionHelpFormatter)
+    parser = Parser("checklist", __doc__)
     parser.add_argument("check", choices=[*CHECKS, "year"])
-    parser.add_argument("program")
+    parser.add_argument("--log")
     parser.add_argument("--out", type=Path)
-    parser.add_argument("--log", type=Path)
+    parser.add_argument("--bench")
     chosen = parser.parse_args()
-    directory = chosen.out or Path(tempfile.mkdtemp(prefix="checklist-"))
-    directory.mkdir(parents=True, exist_ok=True)
-    bench = Bench(chosen.program, directory, chosen.log)
+    if chosen.log is not None and chosen.check not in ("october", "year"):
+        parser.error(f"--log goes with october, and {chosen.check} takes none")
+    station_log = None
+    if chosen.log is not None:
+        with parser.opened(chosen.log) as log:
+            station_log = chosen.log, log.read()
+    try:
+        program = chosen.bench or own_bench()
+        directory = chosen.out or Path(tempfile.mkdtemp(prefix="checklist-"))
+        directory.mkdir(parents=True, exist_ok=True)
+    except Failure as why:
+        parser.exit(1, f"checklist: {why}\n")
+    except OSError as why:
+        parser.exit(2, f"checklist: {why.filename}: {why.strerror}\n")
+    bench = Bench(program, directory, station_log)
     names = CHECKS if chosen.check == "year" else [chosen.check]
     results = [passes(name, bench) for name in names]
     print(f"logs and answers: {directory}")

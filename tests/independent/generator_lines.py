@@ -1,4 +1,4 @@
-"""The generator's lines of the program `vectors`, from tests/generator.py."""
+"""The generator's lines of the program `vectors`, from tests/independent/generator.py."""
 import hashlib
 
 import generator

@@ -1,7 +1,7 @@
 #!/usr/bin/env python3
-"""01's 'Readings on the workbench', with those of 02 (iii), and the bounds of the refusals, asked of tests/logbook.py.
+"""01's 'Readings on the workbench', with those of 02 (iii), and the bounds of the refusals, asked of logbook.py.
 
-    tests/readings.py      exits 1 at the first that does not hold"""
+    tests/independent/readings.py      exits 1 at the first that does not hold"""
 import hashlib
 import sys
 

@@ -1,16 +1,18 @@
 #!/usr/bin/env python3
-"""The stored logs for the bench, and their answers, which tests/logbook.py works out.
+"""The stored logs for the bench, and their answers, which tests/independent/logbook.py works out.
 
-    tests/logs.py --write DIRECTORY      writes NAME.log and NAME.answers
-    tests/logs.py --check DIRECTORY      makes them again and exits 1 where a stored file differs, and says where
+    tests/bench/logs.py --write DIRECTORY      writes NAME.log and NAME.answers
+    tests/bench/logs.py --check DIRECTORY      makes them again and exits 1 where a stored file differs, and says where
 
 Nothing in a log comes from chance or from the clock, so the logs are the same wherever they are made. One isn't made:
-tests/logs/archive.log is from before frame 05 (02, iii), and old logs must run unchanged."""
+tests/bench/logs/archive.log is from before frame 05 (02, iii), and old logs must run unchanged."""
 import hashlib
 import io
 import sys
 from itertools import zip_longest
 from pathlib import Path
+
+sys.path.append(str(Path(__file__).resolve().parents[1] / "independent"))
 
 import logbook
 from frames import Noise, event, log_of, request, update, wide_event, write
@@ -302,7 +304,7 @@ def main(args):
     if args[0] == "--write":
         write_files(Path(args[1]), dict(files()))
         return 0
-    return check_files(Path(args[1]), dict(files()), "tests/logs.py")
+    return check_files(Path(args[1]), dict(files()), "tests/bench/logs.py")
 
 
 if __name__ == "__main__":

@@ -1,16 +1,17 @@
 #!/usr/bin/env python3
 """An implementation made elsewhere: the whole station, by the rules of 01's plain logbook, and the bench's answers.
-
-    tests/logbook.py < LOG      prints what the bench must print
+bin/logbook runs it.
 
 It holds no pools. It notes each accepted event with its r, the pool reseeds made before it, and works out from r which
 reseed the event is booked for; what a pool holds or gives follows from the bookings. Nothing is taken from the station.
-Draws and shuffles (02, i) are calls of it too, though no frame makes one; tests/slots.py runs them. SHA-256 is Python's
-hashlib, AES-256 is tests/aes256.py."""
+Draws and shuffles (02, i) are calls of it too, though no frame makes one; tests/c_interface/slots.py runs them.
+SHA-256 is Python's hashlib, AES-256 is tests/independent/aes256.py."""
+import signal
 import sys
 from collections import defaultdict, namedtuple
 
 import generator
+from arguments import Parser
 from generator import MAX_COUNT, MAX_REQUEST, block_count, double_sha256
 from sha256 import INITIAL, MAX_MESSAGE, compress
 
@@ -276,12 +277,32 @@ def answer(book, line):
     return b" ".join([b"00", b"%02d" % emptied] + ([buffer.hex().upper().encode()] if buffer else []))
 
 
-def answers(stream):
-    """The bench's answer to each line of a stream, with its LF."""
-    book = Logbook()
+def answers(stream, book=None):
+    """The bench's answer to each line of a stream, with its LF, from a fresh logbook or the one given."""
+    book = book or Logbook()
     for line in lines(stream):
         yield answer(book, line) + b"\n"
 
 
+HELP = """usage: logbook [FILE]
+
+Works the answers to a log out again, keys included, from the calls in the log alone, and prints them as bin/bench does.
+It shares no code with the bench: it is the plain logbook, written in Python. The log is FILE, or standard input where
+no FILE is given.
+
+  --help    prints this
+
+Exit status: 0 every line was answered; 2 bad arguments, or FILE can't be read.
+"""
+
+
+def main():
+    signal.signal(signal.SIGPIPE, signal.SIG_DFL)  # ends without a word where nobody reads on, as in logbook LOG | head
+    parser = Parser("logbook", HELP)
+    parser.add_argument("file", nargs="?")
+    with parser.opened_or_standard_input(parser.parse_args().file) as log:
+        sys.stdout.buffer.writelines(answers(log))
+
+
 if __name__ == "__main__":
-    sys.stdout.buffer.writelines(answers(sys.stdin.buffer))
+    main()

@@ -20,18 +20,22 @@ def command(program):
     return [str(path)]
 
 
-def finished(status, output):
+def finished(status, output, said=b""):
+    """The output of a run that went well. What a program says on standard error is a failure, whatever its status."""
+    if said:
+        raise Failure(f"the program said: {said.decode(errors='replace').strip()}")
     if status != 0:
         raise Failure(f"the program ended with status {status}")
     return output
 
 
-def run_on(program, **source):
+def run_on(program, **rest):
+    """The answers of a run; rest is for subprocess: where the log comes from, and the environment."""
     try:
-        done = subprocess.run(command(program), stdout=subprocess.PIPE, timeout=LIMIT, **source)
+        done = subprocess.run(command(program), stdout=subprocess.PIPE, stderr=subprocess.PIPE, timeout=LIMIT, **rest)
     except subprocess.TimeoutExpired:
         raise Failure(f"no end after {LIMIT} seconds") from None
-    return finished(done.returncode, done.stdout)
+    return finished(done.returncode, done.stdout, done.stderr)
 
 
 def run(program, log):
@@ -55,19 +59,25 @@ def feed(pipe, log, size, pause):
         pass  # the program ended early, and its answers show it
 
 
-def run_in_pieces(program, log, size, pause=0.0, reading_pause=0.0):
-    """The answers to a log that comes in pieces, with a pause after each, or after each part of the answers read."""
-    process = subprocess.Popen(command(program), stdin=subprocess.PIPE, stdout=subprocess.PIPE, bufsize=0)
+def run_in_pieces(program, log, size, pause=0.0, reading_pause=0.0, waits=True):
+    """The answers to a log that comes in pieces, with a pause after each, or after each part of the answers read. Where
+    waits is false, the program's own ends of the pipes do not wait for bytes or room."""
+    (log_out, log_in), (answers_out, answers_in) = os.pipe(), os.pipe()
+    for end in (log_out, answers_in):
+        os.set_blocking(end, waits)
+    process = subprocess.Popen(command(program), stdin=log_out, stdout=answers_in)
+    os.close(log_out)
+    os.close(answers_in)
     watch = threading.Timer(LIMIT, process.kill)
-    writer = threading.Thread(target=feed, args=(process.stdin, log, size, pause))
+    writer = threading.Thread(target=feed, args=(open(log_in, "wb", buffering=0), log, size, pause))
     watch.start()
     writer.start()
     output = []
-    while part := process.stdout.read(65536):
+    while part := os.read(answers_out, 65536):
         output.append(part)
         time.sleep(reading_pause)
     writer.join()
-    process.stdout.close()
+    os.close(answers_out)
     status = process.wait()
     watch.cancel()
     return finished(status, b"".join(output))

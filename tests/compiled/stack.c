@@ -1,0 +1,211 @@
+/* The stack that each exported call needs, and what it leaves there: each call runs in a thread on a painted stack.
+   Prints a line for each function: its name, the most bytes of stack that a case of it needed, and for calls on a
+   state the most copies of its key that stood there when the call had ended: of the key before it, and of the key after
+   it. */
+#define _GNU_SOURCE
+#include "fortuna.h"
+
+#include <pthread.h>
+#include <stdio.h>
+#include <stdlib.h>
+#include <string.h>
+
+enum { STACK = 1 << 20, PAINT = 0xa5, LIST = 256, SEED = 64, ROOM = 1 << 20 };
+
+static uint8_t *stack;
+static fortuna_state state;
+static fortuna_generator generator;
+static fortuna_aes256_key expanded;
+static uint8_t data[ROOM], out[ROOM], seed[SEED];
+static uint16_t list[LIST];
+static char lines[1 << 16];
+static size_t line_count;
+
+/* ---- states to start from */
+
+static void seeded(void)
+{
+    state = fortuna_new();
+    memset(seed, 1, sizeof seed);
+    fortuna_update(&state, 0, seed, sizeof seed);
+    generator = state.generator;
+    for (int i = 0; i < LIST; i++)
+        list[i] = (uint16_t)i;
+}
+
+/* The next draw makes a pool reseed that uses all 32 pools, none of them empty. */
+static void due(void)
+{
+    seeded();
+    for (uint32_t pool = 0; pool < 32; pool++)
+        for (int i = 0; i < 3; i++)
+            fortuna_event(&state, 900, pool, data, 32);
+    state.reseeded = true;
+    state.reseed_count = UINT32_MAX;
+}
+
+static void malformed(void)
+{
+    seeded();
+    state.pools[31].tail[63] = 1;
+}
+
+static void fresh(void)
+{
+    seeded();
+    state = fortuna_new();
+}
+
+/* ---- the calls */
+
+enum { CLOCK = 9999 };
+
+static void nothing(void) {}
+static void sha256(void) { fortuna_sha256(data, 1000, out); }
+static void double_sha256(void) { fortuna_double_sha256(data, 1000, out); }
+static void expand(void) { expanded = fortuna_aes256_expand(data); }
+static void block(void) { fortuna_aes256_block(expanded, out); }
+static void generator_new(void) { generator = fortuna_generator_new(); }
+static void generator_reseed(void) { fortuna_generator_reseed_at(&generator, data, 1000); }
+static void generator_blocks(void) { fortuna_generator_blocks_at(&generator, out, 1000); }
+static void generator_request(void) { fortuna_generator_request_at(&generator, out, 1000); }
+static void new(void) { state = fortuna_new(); }
+static void request(void) { fortuna_request(&state, CLOCK, out, 1000); }
+static void update(void) { fortuna_update(&state, CLOCK, seed, sizeof seed); }
+static void write_seed(void) { fortuna_write(&state, CLOCK, seed, sizeof seed); }
+static void draw(void) { fortuna_random_below(&state, CLOCK, 900, 64); }
+static void shuffle(void) { fortuna_shuffle(&state, CLOCK, list, LIST); }
+static void run_log(void) { fortuna_log((const uint8_t *)lines, line_count, out, sizeof out); }
+
+/* Events of several lengths, so that the pool's tail is filled, passed over and met exactly. */
+static void event(void)
+{
+    for (size_t length = 0; length <= 33; length++)
+        fortuna_event(&state, 900, 3, data, length);
+}
+
+static void add_line(const char *start, int count, int byte)
+{
+    line_count += (size_t)sprintf(lines + line_count, "%s", start);
+    for (int i = 0; i < count; i++)
+        line_count += (size_t)sprintf(lines + line_count, "%02X", (byte + i) % 256);
+    lines[line_count++] = '\n';
+}
+
+/* A log with each kind of line, refused ones too, and the longest answers. */
+static void write_log(void)
+{
+    static const char *const refused[] = {"", "0G", "0107", "06", "010720AA", "010703", "0300000000", "02000000000010"};
+    for (size_t i = 0; i < sizeof refused / sizeof *refused; i++)
+        add_line(refused[i], 0, 0);
+    add_line("0300000000", SEED, 1);
+    for (int turn = 0; turn < 4; turn++) {
+        for (int i = 0; i < 4; i++) {
+            add_line("05038400", 32, i);
+            add_line("0107000A", 16, i);
+        }
+        add_line(turn % 2 ? "0200100000FFFF" : "02002000000000", 0, 0);
+        add_line("0400300000", 0, 0);
+        add_line("0300400000", SEED, turn);
+        add_line("05", 300, turn);
+    }
+}
+
+static const struct {
+    const char *name;
+    void (*prepare)(void), (*call)(void);
+    bool on_state;
+} cases[] = {
+    {"fortuna_sha256", seeded, sha256, false},
+    {"fortuna_double_sha256", seeded, double_sha256, false},
+    {"fortuna_aes256_expand", seeded, expand, false},
+    {"fortuna_aes256_block", seeded, block, false},
+    {"fortuna_generator_new", seeded, generator_new, false},
+    {"fortuna_generator_reseed", seeded, generator_reseed, false},
+    {"fortuna_generator_blocks", seeded, generator_blocks, false},
+    {"fortuna_generator_request", seeded, generator_request, false},
+    {"fortuna_new", seeded, new, false},
+    {"fortuna_event", malformed, event, true},
+    {"fortuna_event", seeded, event, true},
+    {"fortuna_request", malformed, request, true},
+    {"fortuna_request", fresh, request, true},
+    {"fortuna_request", seeded, request, true},
+    {"fortuna_request", due, request, true},
+    {"fortuna_update", malformed, update, true},
+    {"fortuna_update", seeded, update, true},
+    {"fortuna_update", due, update, true},
+    {"fortuna_write", malformed, write_seed, true},
+    {"fortuna_write", seeded, write_seed, true},
+    {"fortuna_write", due, write_seed, true},
+    {"fortuna_random_below", malformed, draw, true},
+    {"fortuna_random_below", seeded, draw, true},
+    {"fortuna_random_below", due, draw, true},
+    {"fortuna_shuffle", malformed, shuffle, true},
+    {"fortuna_shuffle", seeded, shuffle, true},
+    {"fortuna_shuffle", due, shuffle, true},
+    {"fortuna_log", seeded, run_log, false},
+};
+enum { CASES = sizeof cases / sizeof *cases };
+
+/* ---- measuring */
+
+static void *on_painted_stack(void *call)
+{
+    (*(void (**)(void))call)();
+    return NULL;
+}
+
+/* How many bytes of the stack a call changed, the thread's own among them. */
+static size_t used_by(void (*call)(void))
+{
+    pthread_t thread;
+    pthread_attr_t attributes;
+    memset(stack, PAINT, STACK);
+    if (pthread_attr_init(&attributes) || pthread_attr_setstack(&attributes, stack, STACK)
+        || pthread_create(&thread, &attributes, on_painted_stack, &call) || pthread_join(thread, NULL))
+        abort();
+    size_t untouched = 0;
+    while (untouched < STACK && stack[untouched] == PAINT)
+        untouched++;
+    return STACK - untouched;
+}
+
+static size_t larger(size_t a, size_t b)
+{
+    return a > b ? a : b;
+}
+
+static size_t copies_of(const uint8_t key[32])
+{
+    static const uint8_t none[32];
+    size_t found = 0;
+    if (!memcmp(key, none, sizeof none))
+        return 0; /* unseeded */
+    for (const uint8_t *at = stack; (at = memmem(at, (size_t)(stack + STACK - at), key, 32)); at++)
+        found++;
+    return found;
+}
+
+int main(void)
+{
+    stack = aligned_alloc(4096, STACK);
+    write_log();
+    const size_t base = used_by(nothing);
+    for (int i = 0; i < CASES;) {
+        const char *name = cases[i].name;
+        const bool on_state = cases[i].on_state;
+        size_t most = 0, before = 0, after = 0;
+        for (; i < CASES && !strcmp(cases[i].name, name); i++) {
+            cases[i].prepare();
+            const fortuna_state old = state;
+            most = larger(most, used_by(cases[i].call) - base);
+            before = larger(before, copies_of(old.generator.key));
+            after = larger(after, copies_of(state.generator.key));
+        }
+        printf("%s %zu", name, most);
+        if (on_state)
+            printf(" %zu %zu", before, after);
+        printf("\n");
+    }
+    return 0;
+}

@@ -1,0 +1,31 @@
+"""What the commands in bin/ share: a word that they don't know, or a file that can't be read, is one line and
+status 2."""
+import argparse
+import sys
+
+
+class Parser(argparse.ArgumentParser):
+    """text is what --help prints."""
+
+    def __init__(self, name, text):
+        super().__init__(prog=name, description=text, allow_abbrev=False)
+
+    def format_help(self):
+        return self.description
+
+    def error(self, message):
+        self.exit(2, f"{self.prog}: {message}; {self.prog} --help says what there is\n")
+
+    def opened(self, name):
+        """The file of that name."""
+        try:
+            return open(name, "rb")
+        except OSError as why:
+            self.exit(2, f"{self.prog}: {name}: {why.strerror}\n")
+
+    def opened_or_standard_input(self, name):
+        if name is not None:
+            return self.opened(name)
+        if sys.stdin is None:
+            self.exit(2, f"{self.prog}: there is no standard input\n")
+        return sys.stdin.buffer
