@@ -2,7 +2,7 @@
 """Which definitions of the crates below it each crate's proofs open: a line for each pair of crates.
 
     tests/gate/opened.py            print the lines
-    tests/gate/opened.py --check    compare them with tests/gate/opened.txt, which is read beside docs/decisions/theorem.md
+    tests/gate/opened.py --check    compare them with tests/gate/opened.txt, which is read beside docs/decisions/layers.md
 
 An upper crate relies on the contracts and laws of the lower ones. Where its proofs open a definition instead (`unfolding`,
 `unfold .. in`), a change of that text can reach them, so what is opened is kept as a list, and a new entry has to be meant.

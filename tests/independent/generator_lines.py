@@ -13,6 +13,10 @@ def blank(n):
     return bytearray(b"\xee" * n)
 
 
+def length_bytes(buffer):
+    return len(buffer).to_bytes(3, "big")
+
+
 def buffer_text(buffer):
     if len(buffer) == 0:
         return ""
@@ -22,109 +26,126 @@ def buffer_text(buffer):
 
 
 class Run:
-    """Lines of calls under one title, each call on the state that the last left."""
+    """Calls under one title, each on the state that the last left. What the program holds, its state and its lent buffer, is
+    what its last line left: a line sets the state only where the run starts from another one."""
 
-    def __init__(self, title, state):
+    held = None
+
+    def __init__(self, cases, title, state):
+        self.cases = cases
         self.title = f"generator {title}"
         self.state = state
+        if state == FRESH:
+            cases.set("Gn", b"\x00")
+        elif state != Run.held:
+            cases.set("Gk", state.key + counter_bytes(state.count))
 
-    def call(self, operation, argument):
+    def call(self, letters, operation, data, argument):
         number, self.state = getattr(generator, operation)(self.state, argument)
-        key, count = self.state
-        return (
-            f"{self.title} {operation} {len(argument)}: {number}"
-            f" key {key.hex()} counter {counter_bytes(count).hex()}"
-        )
+        key, count = Run.held = self.state
+        answer = f"{number} key {key.hex()} counter {counter_bytes(count).hex()}"
+        if operation != "reseed":
+            answer += buffer_text(argument)
+        self.cases.case(letters, data, f"{self.title} {operation} {len(argument)}", answer)
 
     def reseed(self, seed):
-        return self.call("reseed", seed)
+        self.call("gs", "reseed", seed, seed)
 
-    def blocks(self, buffer):
-        return f"{self.call('blocks', buffer)}{buffer_text(buffer)}"
+    def blocks(self, buffer, given=True):
+        """With a buffer whose bytes the line gives, or that is as the last call left it."""
+        self.call("gb", "blocks", length_bytes(buffer) + (bytes(buffer) if given else b""), buffer)
 
-    def request(self, buffer):
-        return f"{self.call('request', buffer)}{buffer_text(buffer)}"
+    def request(self, buffer, given=True):
+        self.call("gr", "request", length_bytes(buffer) + (bytes(buffer) if given else b""), buffer)
 
 
-def seeded_lines():
+def add_seeded(cases):
     for length in (0, 1, 32, 64, 100):
-        run = Run(f"seed {length}", FRESH)
-        yield run.reseed(b"\xa5" * length)
+        run = Run(cases, f"seed {length}", FRESH)
+        run.reseed(b"\xa5" * length)
         for operation in (run.blocks, run.request, run.blocks):
             for n in SIZES:
-                yield operation(blank(n))
+                operation(blank(n))
 
 
-def chain_lines(pattern):
+def add_chain(cases, pattern):
     state = FRESH
     for i in range(34):
-        run = Run(f"chain {i}", state)
+        run = Run(cases, f"chain {i}", state)
         buffer = blank(i)
-        yield run.reseed(pattern[:i])
-        yield run.request(buffer)
-        yield run.blocks(buffer)
+        run.reseed(pattern[:i])
+        run.request(buffer)
+        run.blocks(buffer, given=False)
         state = run.state
 
 
-def thousand_lines():
+def add_thousand(cases):
+    """A thousand turns: a reseed by what the buffer holds, then a request that fills it."""
     state = FRESH
     buffer = blank(61)
+    cases.set("Gn", b"\x00")
+    cases.set("Gt", length_bytes(buffer) + (1000).to_bytes(2, "big") + buffer)
     for _ in range(1000):
         _, state = generator.reseed(state, bytes(buffer))
         _, state = generator.request(state, buffer)
-    yield Run("turns 1000", state).blocks(buffer)
+    Run.held = state
+    Run(cases, "turns 1000", state).blocks(buffer, given=False)
 
 
-def carry_lines():
+def add_carries(cases):
     for n in range(1, 16):
         state = State(KEY, 2 ** (8 * n) - 1)
-        yield Run(f"carry {n}", state).reseed(b"abc")
-        yield Run(f"carry {n}", state).blocks(blank(33))
-        yield Run(f"carry {n}", state).request(blank(33))
+        Run(cases, f"carry {n}", state).reseed(b"abc")
+        Run(cases, f"carry {n}", state).blocks(blank(33))
+        Run(cases, f"carry {n}", state).request(blank(33))
 
 
-def refused_lines():
-    cases = []
+def refusing_states():
+    """States that refuse calls (21, 23, 24), each beside a neighbour that takes them."""
     for place, value in ((0, 0x01), (15, 0x80), (31, 0xFF)):
         key = bytearray(32)
         key[place] = value
-        cases.append((f"malformed {place}", State(bytes(key), 0)))
-    cases.append(("counter 0", FRESH))
-    cases.append(("counter 1", State(KEY, 1)))
+        yield f"malformed {place}", State(bytes(key), 0)
+    yield "counter 0", FRESH
+    yield "counter 1", State(KEY, 1)
     for below in (5, 4, 3, 2, 1):
-        cases.append((f"2^128 - {below}", State(KEY, 2**128 - below)))
-    for title, state in cases:
-        yield Run(title, state).reseed(b"abc")
-        yield Run(title, state).blocks(blank(0))
-        yield Run(title, state).blocks(blank(1))
-        yield Run(title, state).request(blank(0))
-        yield Run(title, state).request(blank(17))
+        yield f"2^128 - {below}", State(KEY, 2**128 - below)
 
 
-def large_lines():
+def add_refused(cases):
+    """17 takes a seed above 2^61 - 33 bytes, which no machine can lend: it is proved and not run."""
+    for title, state in refusing_states():
+        Run(cases, title, state).reseed(b"abc")
+        Run(cases, title, state).blocks(blank(0))
+        Run(cases, title, state).blocks(blank(1))
+        Run(cases, title, state).request(blank(0))
+        Run(cases, title, state).request(blank(17))
+
+
+def add_large(cases):
+    """Buffers about the most bytes of one call, each as the last call left it. The program's buffer starts with 0xee."""
     buffer = memoryview(blank(LIMIT + 1))
-    run = Run("seed 3", FRESH)
-    yield run.reseed(b"abc")
-    yield run.request(buffer[:65535])
-    yield run.request(buffer[:LIMIT])
-    yield run.blocks(buffer[:65535])
-    yield run.blocks(buffer[:LIMIT])
-    yield run.blocks(buffer)
-    yield run.request(buffer)
+    run = Run(cases, "seed 3", FRESH)
+    run.reseed(b"abc")
+    for operation in (run.request, run.blocks):
+        operation(buffer[:65535], given=False)
+        operation(buffer[:LIMIT], given=False)
+    run.blocks(buffer, given=False)
+    run.request(buffer, given=False)
     for below, operation in ((65539, "request"), (65538, "request"), (65537, "blocks"), (65536, "blocks")):
-        run = Run(f"2^128 - {below}", State(KEY, 2**128 - below))
-        yield getattr(run, operation)(buffer[:LIMIT])
+        run = Run(cases, f"2^128 - {below}", State(KEY, 2**128 - below))
+        getattr(run, operation)(buffer[:LIMIT], given=False)
     malformed = State(b"\x01" + bytes(31), 0)
     for title, state in (("malformed 0", malformed), ("counter 0", FRESH), ("2^128 - 1", State(KEY, 2**128 - 1))):
-        run = Run(title, state)
-        yield run.blocks(buffer)
-        yield run.request(buffer)
+        run = Run(cases, title, state)
+        run.blocks(buffer, given=False)
+        run.request(buffer, given=False)
 
 
-def lines(pattern):
-    yield from seeded_lines()
-    yield from chain_lines(pattern)
-    yield from thousand_lines()
-    yield from carry_lines()
-    yield from refused_lines()
-    yield from large_lines()
+def add(cases, pattern):
+    add_seeded(cases)
+    add_chain(cases, pattern)
+    add_thousand(cases)
+    add_carries(cases)
+    add_refused(cases)
+    add_large(cases)

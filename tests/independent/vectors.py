@@ -1,14 +1,15 @@
 #!/usr/bin/env python3
-"""The lines that the program `vectors` must print, worked out without it.
+"""The cases of the program `vectors`, and the lines that it must print, worked out without it.
 
-    tests/vectors.py                  prints the lines
-    tests/vectors.py --check FILE     exits 1 where FILE differs, and says where
+    tests/independent/vectors.py FOLDER             writes FOLDER/stdin and FOLDER/stdout
+    tests/independent/vectors.py --check FOLDER     exits 1 where one of them differs, and says where
 
-SHA-256 is Python's hashlib, and for states that hashlib cannot start from tests/sha256.py, written from
-FIPS 180-4; AES-256 is tests/aes256.py, written from FIPS 197, and the generator tests/generator.py. Published values
+SHA-256 is Python's hashlib, and for states that hashlib cannot start from sha256.py beside it, written from
+FIPS 180-4; AES-256 is aes256.py, written from FIPS 197, and the generator generator.py. Published values
 are literals, and each is asserted. Nothing but Python's standard library is needed."""
 import hashlib
 import sys
+from pathlib import Path
 
 import generator_lines
 from aes256 import encrypt, encrypt_blocks, expand_key, xor
@@ -29,8 +30,9 @@ def double_sha256(m):
     return sha256(sha256(m))
 
 
-# ---- the lines
+# ---- the cases
 
+ONCE = (1).to_bytes(2, "big")  # how often a part is absorbed
 PATTERN = bytes((7 * i + 3) % 251 for i in range(129))
 MESSAGES = [
     ("empty", b"", "e3b0c44298fc1c149afbf4c8996fb92427ae41e4649b934ca495991b7852b855"),
@@ -54,25 +56,56 @@ MESSAGES = [
 ]
 
 
-def message_lines():
+class Cases:
+    """Lines for the program, and the lines that it must print. crates/vectors/src/main.rt says what a line has."""
+
+    def __init__(self):
+        self.stdin = []
+        self.stdout = []
+
+    def set(self, letters, data):
+        """A line that sets a state for later ones, and prints nothing."""
+        self.stdin.append(f"{letters} {data.hex()}")
+
+    def case(self, letters, data, title, answer):
+        self.stdin.append(f"{letters} {data.hex()} {title}")
+        self.stdout.append(f"{title}: {answer}")
+
+
+def add_messages(cases):
     for title, m, published in MESSAGES:
         assert sha256(m).hex() == published
-        yield f"sha256 {title}: {published}"
+        if len(m) < 1000:
+            cases.case("hs", m, f"sha256 {title}", published)
+    add_million(cases)
 
 
-def double_lines():
-    yield f"double empty: {double_sha256(b'').hex()}"
-    yield f"double abc: {double_sha256(b'abc').hex()}"
-    yield f"double pool abc: {double_sha256(b'abc').hex()}"
+def add_million(cases):
+    """The last message, in parts of 1, 63, 129 and 807 bytes, each a thousand times."""
+    title, m, published = MESSAGES[-1]
+    for n in (1, 63, 129, 807):
+        cases.set("Hn" if n == 1 else "Ha", (1000).to_bytes(2, "big") + m[:n])
+    cases.case("hf", b"", f"sha256 {title}", published)
 
 
-def pattern_lines():
+def add_doubles(cases):
+    cases.case("hd", b"", "double empty", double_sha256(b"").hex())
+    cases.case("hd", b"abc", "double abc", double_sha256(b"abc").hex())
+    cases.set("He", ONCE + b"abc")
+    cases.case("hp", b"", "double pool abc", double_sha256(b"abc").hex())
+
+
+def add_patterns(cases):
+    """Every front of the pattern: SHA-256 at once and cut at a third, D, and D of a key joined with it."""
+    key = bytes(range(32))
     for n in range(len(PATTERN) + 1):
         m = PATTERN[:n]
-        yield f"sha256 pattern {n}: {sha256(m).hex()}"
-        yield f"sha256 in two parts {n}: {sha256(m).hex()}"
-        yield f"double pattern {n}: {double_sha256(m).hex()}"
-        yield f"double joined {n}: {double_sha256(bytes(range(32)) + m).hex()}"
+        cases.case("hs", m, f"sha256 pattern {n}", sha256(m).hex())
+        cases.set("Hn", ONCE + m[: n // 3])
+        cases.set("Ha", ONCE + m[n // 3 :])
+        cases.case("hf", b"", f"sha256 in two parts {n}", sha256(m).hex())
+        cases.case("hd", m, f"double pattern {n}", double_sha256(m).hex())
+        cases.case("hj", key + m, f"double joined {n}", double_sha256(key + m).hex())
 
 
 # A state that no message is known for: another hash value, and a tail that has no zeros after its bytes.
@@ -84,24 +117,39 @@ def state_digest(count):
     return finish(CHAIN, TAIL[: count % 64], count)
 
 
-def state_lines():
+def set_state(cases, count):
+    """The program holds that state, with a length."""
+    cases.set("Hg", count.to_bytes(8, "big"))
+
+
+def add_states(cases):
     for count in (192, 202, 247, 248, 255, MAX_MESSAGE):
-        yield f"state finish {count}: {state_digest(count).hex()}"
+        set_state(cases, count)
+        cases.case("hf", b"", f"state finish {count}", state_digest(count).hex())
     for count in (202, MAX_MESSAGE):
-        yield f"state pool {count}: {sha256(state_digest(count)).hex()}"
+        set_state(cases, count)
+        cases.case("hp", b"", f"state pool {count}", sha256(state_digest(count)).hex())
+    set_state(cases, 202)
+    cases.set("Ha", ONCE + PATTERN)
     joined = TAIL[: 202 % 64] + PATTERN
-    yield f"state absorb 202: {finish(CHAIN, joined, 202 + len(PATTERN)).hex()}"
+    cases.case("hf", b"", "state absorb 202", finish(CHAIN, joined, 202 + len(PATTERN)).hex())
 
 
-def limit_lines():
+def add_limits(cases):
+    """Answers at the limit of 2^61 - 1 bytes, and what a refusal hands out."""
     for count, m in ((MAX_MESSAGE, b""), (MAX_MESSAGE, b"a"), (MAX_MESSAGE + 1, b""), (2**64 - 1, b"abc")):
         refused = count + len(m) > MAX_MESSAGE
-        yield f"absorb answer {count} and {len(m)}: {17 if refused else 0}"
+        set_state(cases, count)
+        cases.case("hA", m, f"absorb answer {count} and {len(m)}", 17 if refused else 0)
     for count in (MAX_MESSAGE, MAX_MESSAGE + 1, 2**64 - 1):
-        yield f"finish answer {count}: {17 if count > MAX_MESSAGE else 0}"
-        yield f"pool answer {count}: {17 if count > MAX_MESSAGE else 0}"
-    yield f"refused digest: {bytes(32).hex()}"
-    yield f"refused state: {state_digest(MAX_MESSAGE).hex()}"
+        set_state(cases, count)
+        cases.case("hF", b"", f"finish answer {count}", 17 if count > MAX_MESSAGE else 0)
+        cases.case("hP", b"", f"pool answer {count}", 17 if count > MAX_MESSAGE else 0)
+    set_state(cases, MAX_MESSAGE + 1)
+    cases.case("hf", b"", "refused digest", bytes(32).hex())
+    set_state(cases, MAX_MESSAGE)
+    cases.set("Ha", ONCE + b"a")
+    cases.case("hf", b"", "refused state", state_digest(MAX_MESSAGE).hex())
 
 
 # FIPS 197, C.3
@@ -142,49 +190,58 @@ fe4890d1 e6188d0b 046df344 706c631e
 """.split()
 
 
-def cipher_lines():
+def add_blocks(cases):
     assert encrypt(C3_KEY, C3_TEXT).hex() == C3_CIPHER
     assert encrypt_blocks(KEY, b"".join(TEXT)).hex() == "".join(ECB)
-    yield f"aes256 C.3: {C3_CIPHER}"
+    cases.case("ce", C3_KEY + C3_TEXT, "aes256 C.3", C3_CIPHER)
     for n, (block, published) in enumerate(zip(TEXT, ECB), 1):
         assert encrypt(KEY, block).hex() == published
-        yield f"aes256 ECB {n}: {published}"
+        cases.case("cx", KEY + block, f"aes256 ECB {n}", published)
     for n, (block, published) in enumerate(zip(TEXT, CTR), 1):
-        stream = encrypt(KEY, (COUNTER + n - 1).to_bytes(16, "big"))
-        assert xor(stream, block).hex() == published
-        yield f"aes256 CTR {n}: {published}"
+        counter = (COUNTER + n - 1).to_bytes(16, "big")
+        assert xor(encrypt(KEY, counter), block).hex() == published
+        cases.case("cx", KEY + counter + block, f"aes256 CTR {n}", published)
 
 
-def schedule_lines():
+def add_schedule(cases):
     words = [w.hex() for w in expand_key(KEY)]
     assert words[8:] == A3_WORDS
     for i, word in enumerate(words):
-        yield f"aes256 word {i}: {word}"
+        cases.case("cw", KEY + bytes([4 * i]), f"aes256 word {i}", word)
 
 
-def writer_lines():
+def add_parts(cases):
+    """The block writer, into parts of 0 to 18 bytes; what it leaves keeps 0xee."""
     block = encrypt(KEY, TEXT[0])
     for n in range(19):
         part = block[:n].ljust(18, b"\xee")
-        yield f"aes256 part {n}: {part.hex()}"
+        cases.case("cp", KEY + TEXT[0] + bytes([n]), f"aes256 part {n}", part.hex())
 
 
-def lines():
-    yield from message_lines()
-    yield from double_lines()
-    yield from pattern_lines()
-    yield from state_lines()
-    yield from limit_lines()
-    yield from cipher_lines()
-    yield from schedule_lines()
-    yield from writer_lines()
-    yield from generator_lines.lines(PATTERN)
+def all_cases():
+    cases = Cases()
+    add_messages(cases)
+    add_doubles(cases)
+    add_patterns(cases)
+    add_states(cases)
+    add_limits(cases)
+    add_blocks(cases)
+    add_schedule(cases)
+    add_parts(cases)
+    generator_lines.add(cases, PATTERN)
+    return cases
 
 
-def check(path):
-    with open(path, encoding="ascii") as f:
-        found = f.read().split("\n")
-    expected = list(lines()) + [""]
+def files():
+    """What the program reads, and what it must print, by the file's name."""
+    cases = all_cases()
+    return {"stdin": cases.stdin, "stdout": cases.stdout}
+
+
+def check(path, lines):
+    """Where a file's lines differ from these; None where they do not."""
+    found = path.read_text(encoding="ascii").split("\n")
+    expected = lines + [""]
     for n, (a, b) in enumerate(zip(expected, found), 1):
         if a != b:
             return f"{path}:{n}: expected '{a}', found '{b}'"
@@ -194,17 +251,17 @@ def check(path):
 
 
 def main(args):
-    if not args:
-        print("\n".join(lines()))
+    if len(args) == 1 and not args[0].startswith("-"):
+        for name, lines in files().items():
+            (Path(args[0]) / name).write_text("\n".join(lines) + "\n", encoding="ascii")
         return 0
     if len(args) != 2 or args[0] != "--check":
         print(__doc__, file=sys.stderr)
         return 2
-    difference = check(args[1])
-    if difference:
+    differences = [check(Path(args[1]) / name, lines) for name, lines in files().items()]
+    for difference in filter(None, differences):
         print(difference, file=sys.stderr)
-        return 1
-    return 0
+    return 1 if any(differences) else 0
 
 
 if __name__ == "__main__":

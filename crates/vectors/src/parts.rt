@@ -1,36 +1,52 @@
-// SHA-256 of messages that come in parts.
-use hash::Hasher;
+// Parts of buffers. What asks for more than there is gets what there is, so that callers have nothing to show.
+ghost use mathlib.Core.Path.{_≡_};
+ghost use Prim.Native.Nat.{_≤_};
+ghost use lib.ListN.{length};
 
-fn absorbed(state: Hasher, part: &[u8]) -> Hasher {
-    let a = state.absorb(part);
-    a.next
+// One byte more than the most of one call, and more than the input has.
+pub(crate) const ROOM: usize = 1048577;
+
+pub(crate) fn space() -> [u8; ROOM]
+    ensures { λ r. ⌜ 1048577 ≡ length r ⌝ }
+{
+    [0xee; ROOM]
 }
 
-// A thousand bytes 'a' more, in parts of 1, 63, 129 and 807 bytes.
-fn thousand(state: Hasher) -> Hasher {
-    let one = absorbed(state, &[0x61u8; 1]);
-    let block = absorbed(one, &[0x61u8; 63]);
-    let blocks = absorbed(block, &[0x61u8; 129]);
-    absorbed(blocks, &[0x61u8; 807])
-}
-
-pub(crate) fn million() -> [u8; 32] {
-    let mut state = Hasher::new();
-    for _ in 0..1000usize {
-        state = thousand(state);
+// Byte i, 0 past the end.
+pub(crate) fn at(s: &[u8], i: usize) -> u8 {
+    if i < s.len() {
+        return s[i];
     }
-    let h = state.finish();
-    h.digest
+    0
 }
 
-fn joined(a: &[u8], b: &[u8]) -> [u8; 32] {
-    let state = absorbed(absorbed(Hasher::new(), a), b);
-    let h = state.finish();
-    h.digest
+// The first n bytes.
+pub(crate) fn front(s: &[u8], n: usize) -> &[u8] {
+    if n < s.len() {
+        return &s[..n];
+    }
+    s
 }
 
-// A message cut at a third.
-pub(crate) fn in_two(m: &[u8]) -> [u8; 32] {
-    let third = m.len() / 3;
-    joined(&m[..third], &m[third..])
+// What follows the first n bytes, none where there are fewer.
+pub(crate) fn after(s: &[u8], n: usize) -> &[u8] {
+    let end = s.len();
+    if n < end {
+        return &s[n..];
+    }
+    &s[end..]
+}
+
+// How many characters stand before the first line feed, or in all.
+pub(crate) fn line_length(s: &[u8]) -> usize
+    ensures { λ r. ⌜ r ≤ length (now (s .entry)) ⌝ }
+{
+    let mut i = 0;
+    while i < s.len() {
+        if s[i] == 10 {
+            return i;
+        }
+        i += 1;
+    }
+    i
 }

@@ -1,32 +1,56 @@
-// Keys and blocks from hexadecimal text.
+// Bytes from hexadecimal text, and numbers from bytes.
+use crate::parts::at;
+
+// What a digit stands for, 16 for any other character.
 fn digit(c: u8) -> u8 {
-    if c < 0x3a { c % 16 } else { c % 16 + 9 }
-}
-
-// Byte i of the text, 0 past its end.
-fn byte(text: &[u8], i: usize) -> u8 {
-    if i >= text.len() / 2 {
-        return 0;
+    if c < 48 {
+        return 16;
     }
-    let high = digit(text[2 * i]) % 16;
-    let low = digit(text[2 * i + 1]) % 16;
-    16 * high + low
-}
-
-fn decode(text: &[u8], out: &mut [u8]) {
-    for i in 0..out.len() {
-        out[i] = byte(text, i);
+    if c <= 57 {
+        return c - 48;
     }
+    if c < 97 {
+        return 16;
+    }
+    if c <= 102 {
+        return c - 87;
+    }
+    16
 }
 
-pub(crate) fn block(text: &[u8]) -> [u8; 16] {
-    let mut r = [0u8; 16];
-    decode(text, &mut r);
-    r
+// The byte of two digits, 256 or more where one is none.
+fn byte(high: u8, low: u8) -> u32 {
+    let h = digit(high) as u32;
+    let l = digit(low) as u32;
+    if l > 15 {
+        return 256;
+    }
+    16 * h + l
 }
 
-pub(crate) fn key(text: &[u8]) -> [u8; 32] {
-    let mut r = [0u8; 32];
-    decode(text, &mut r);
-    r
+// The bytes of a text, up to the first two characters that are not both digits; how many they are.
+pub(crate) fn decode(text: &[u8], out: &mut [u8]) -> usize {
+    let mut i = 0;
+    while i < out.len() {
+        let pair = byte(at(text, 2 * i), at(text, 2 * i + 1));
+        if pair > 255 {
+            return i;
+        }
+        out[i] = (pair % 256) as u8;
+        i += 1;
+    }
+    i
+}
+
+pub(crate) fn wide(b: u8) -> u64 {
+    b as u64
+}
+
+// The number of 8 bytes or fewer, the most significant first.
+pub(crate) fn number(bytes: &[u8]) -> u64 {
+    let mut n: u64 = 0;
+    for i in 0..bytes.len() {
+        n = n % 0x100_0000_0000_0000 * 256 + wide(bytes[i]) % 256;
+    }
+    n
 }
