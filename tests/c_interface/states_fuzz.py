@@ -302,7 +302,7 @@ def counter_at_end(r, case):
 
 
 def nearly_stopped(r, case):
-    """Requests that bring the number of requests on the key to its end or near it; a draw or a shuffle makes several."""
+    """Requests that bring the number of requests on the key to its end or near it; draws and shuffles make several."""
     case.change(key_requests=MAX_KEY_REQUESTS - r.choice((0, 1, 2, 3, 5, 64)))
 
 
