@@ -331,8 +331,8 @@ def largest_cases(r):
     yield Case("shuffle", any_state(r), numbers=tuple(r.sample(range(2**16), 256)))
 
 
-def buffer_for(kind):
-    return bytes(SEED_SIZE if kind in ("update", "write") else 16)
+def buffer_for(r, kind):
+    return r.randbytes(SEED_SIZE if kind in ("update", "write") else 16)
 
 
 def counted_cases(r):
@@ -345,13 +345,14 @@ def counted_cases(r):
                 pools = (pool_of(r, size), *FRESH.pools[1:])
                 counted = state._replace(pools=pools, key_requests=requests)
                 for kind in KINDS:
-                    yield Case(kind, counted, 106, buffer=buffer_for(kind), n=2**31 + 1, tries=5, numbers=(4, 3, 2, 1))
+                    lent = {"buffer": buffer_for(r, kind), "numbers": (4, 3, 2, 1)}
+                    yield Case(kind, counted, 106, n=2**31 + 1, tries=5, **lent)
                 yield Case("draw", counted, 106, n=2**31 + 1, tries=1)
 
 
 def fixed_cases(r):
     for kind in KINDS:
-        yield Case(kind, FRESH, buffer=buffer_for(kind))
+        yield Case(kind, FRESH, buffer=buffer_for(r, kind))
     yield from counted_cases(r)
     for largest in largest_cases(r):
         yield largest
