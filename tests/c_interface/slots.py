@@ -27,6 +27,7 @@ import generator
 import script
 import station
 from frames import Noise, log_of
+from generator import MAX_REQUEST
 from logbook import MAX_LIST, MAX_TRIES, MOST_TOLD, Logbook, Station
 from logs import check_files, write_files
 from program import Failure, compare, run
@@ -39,6 +40,7 @@ SIZES = (0, 1, 2, 3, 255, 256, 257)
 SOURCES = (0, 255, 256, 65535, 65536, 2**32 - 1)  # the last two give 11, which no bench line can
 MUST_OCCUR = {
     *(("event", number) for number in (0, 11)),
+    *(("request", number) for number in (0, 14, 23)),
     *(("draw", number) for number in (0, 23, 31, 32, 33)),
     *(("draw with a reseed", number) for number in (0, 33)),
     *(("draw of some tries", number) for number in (0, 33)),
@@ -111,6 +113,7 @@ def unseeded(maker):
     yield from (script.draw(0, n, 1) for n in BOUNDS)
     yield from (script.draw(0, 10, tries) for tries in TRIES)
     yield from bound_lists(maker, 0)
+    yield from (script.request(0, 16), script.write(0))
     yield maker.event(0, 1)
     yield script.draw(0, 10, 64)
 
@@ -152,7 +155,7 @@ def counting(maker, clock):
             yield from [*maker.filling(64), counted, call]
         clock += 303
         yield from (counted, script.shuffle(clock, ()), script.shuffle(clock, (7,)), maker.event(1, 5))
-        yield from (script.event(1, 32, b"\x5a"), script.update(clock, b""))
+        yield from (script.event(1, 32, b"\x5a"), script.request(clock, MAX_REQUEST + 1), script.update(clock, b""))
         yield from (script.draw(clock, 0, 1), script.shuffle(clock, (7, 7)))
 
 
