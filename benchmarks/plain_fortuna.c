@@ -148,7 +148,7 @@ static bool malformed(const plain_state *s)
 {
     for (int i = 0; i < PLAIN_POOLS; i++)
         if (malformed_pool(&s->pools[i])) return true;
-    if (unseeded(s) && (s->reseeded || memcmp(s->key, zeros, sizeof s->key) != 0)) return true;
+    if (unseeded(s) && (s->reseeded || s->key_requests > 0 || memcmp(s->key, zeros, sizeof s->key) != 0)) return true;
     return !s->reseeded && (s->last_reseed != 0 || s->reseed_count != 0);
 }
 
@@ -171,6 +171,7 @@ static uint32_t pool_reseed(plain_state *s, uint32_t clock)
     reseed(s, digests, 32 * used);
     s->last_reseed = clock;
     s->reseeded = true;
+    s->key_requests = 0;
     return used;
 }
 
@@ -187,6 +188,7 @@ static uint32_t random_data(plain_state *s, uint32_t clock, uint8_t *out, size_t
 {
     uint32_t emptied = due(s, clock) ? pool_reseed(s, clock) : 0;
     generate(s, out, length);
+    if (s->key_requests < UINT16_MAX) s->key_requests++;
     return emptied;
 }
 

@@ -18,7 +18,8 @@ typedef struct {
 } plain_pool;
 
 /* The counter has its least significant byte first. last_reseed is the clock at the last pool reseed, reseed_count
-   their number modulo 2^32, reseeded whether there was one. */
+   their number modulo 2^32, reseeded whether there was one, key_requests the requests since then or since the start, up
+   to 65,535. */
 typedef struct {
     uint8_t key[32];
     uint8_t counter[16];
@@ -26,6 +27,7 @@ typedef struct {
     uint32_t last_reseed;
     uint32_t reseed_count;
     bool reseeded;
+    uint16_t key_requests;
 } plain_state;
 
 void plain_new(plain_state *s);

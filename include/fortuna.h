@@ -72,8 +72,8 @@ enum {
     FORTUNA_TRY_RANGE = 32,
     /* a malformed state, which no run of calls leaves: a pool length above 2^61 - 1; a byte after a pool's tail that is
        not 0; a pool below 64 bytes whose chain is not SHA-256's initial value; counter 0 with a key that is not all
-       zero; counter 0 with reseeded set; reseeded clear with a last_reseed or a reseed_count that is not 0. For the
-       generator alone: counter 0 with a key that is not all zero */
+       zero; counter 0 with reseeded set; reseeded clear with a last_reseed or a reseed_count that is not 0; counter 0
+       with a key_requests above 0. For the generator alone: counter 0 with a key that is not all zero */
     FORTUNA_MALFORMED = 21,
     /* an event: its pool's length with the 3 bytes of header and the data would pass 2^61 - 1 */
     FORTUNA_POOL_FULL = 22,
@@ -171,13 +171,25 @@ typedef struct {
    whether one was made. Any values may stand in it, save that the byte of reseeded is 0 or 1. Another byte there is
    outside what is proved, and no call looks for it. A page of flash memory that was never written, or only in part, may
    hold one: before such bytes are copied over a state, see that the one at offsetof(fortuna_state, reseeded) is 0 or 1.
-   A stored state that is taken up twice gives the same keys twice; fortuna_update is made for a restart. */
+   A stored state that is taken up twice gives the same keys twice; fortuna_update is made for a restart.
+
+   How stale the key is: read state.key_requests, at any time between calls. It is the number of accepted requests, seed
+   calls and single tries included, since the last pool reseed or the fresh start, stopping at 65,535. The request, seed
+   call or try that makes the pool reseed leaves 1; tries before FORTUNA_NONE_DRAWN count too. The reseed that
+   fortuna_update makes with its seed is no pool reseed, so an update adds 1. An event, a refused call and a shuffle of
+   0 or 1 numbers change nothing.
+
+   A state stored by a version without key_requests. Size (3,392 bytes) and the places of all other fields are as they
+   were, but the two bytes of key_requests were padding then and may hold anything. Set the field before the first call:
+   to 0, where the number is not known, and always to 0 where the counter is 0. Otherwise a counter of 0 may give
+   FORTUNA_MALFORMED, and the number tells nothing until the next pool reseed; the bytes drawn do not depend on it. */
 typedef struct {
     fortuna_generator generator;
     fortuna_pool pools[32];
     uint32_t last_reseed;
     uint32_t reseed_count;
     bool reseeded;
+    uint16_t key_requests;
 } fortuna_state;
 
 /* The number, and how many pools were emptied, 0 without a pool reseed. */

@@ -170,6 +170,12 @@ static void order_stations(fortuna_state *f, uint32_t clock)
     printf("\n");
 }
 
+/* How stale the key is, for whoever services the digitiser. No call is needed: the number is part of the state. */
+static void show_staleness(const fortuna_state *f)
+{
+    printf("requests on the key since the last pool reseed: %u\n", f->key_requests);
+}
+
 /* A stored log of calls, run in one call from a fresh station: an event of source 7, one of source 900, a request, and
    a line that is no frame. */
 static void run_log(void)
@@ -195,6 +201,7 @@ int main(void)
     misplace_event(&f);
     draw_slot(&f, 1200);
     order_stations(&f, 1250);
+    show_staleness(&f);
 
     must("seed write", fortuna_write(&f, 2000, flash, sizeof flash).number);
     printf("seed for the next start: ");

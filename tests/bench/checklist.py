@@ -8,16 +8,19 @@ The year's checks of docs/CHECKLIST.md. CHECK is one of
   july       clock set back, then a draw every 50 ms
   october    keys worked out again from the logged calls
   year       all four
+  stale      no check, but a question: how many requests were made on the key that a log ends with
 
 Each check ends with a line 'NAME: pass' or 'NAME: FAIL: why'. The logs and their answers stay in a directory, which
-is named at the end.
+is named at the end. stale needs no bench and leaves no files: it prints what it works out from the log alone.
 
-  --log FILE          october: a log that a station wrote, in place of a made one
+  --log FILE          october: a log that a station wrote, in place of a made one; stale: the log, in place of standard
+                      input
   --out DIRECTORY     where logs and answers stay; without it a new temporary directory
   --bench PROGRAM     checks this program; without it the bench of this repository, which is proved and built first
   --help              prints this
 
-Exit status: 0 all checks passed; 1 one failed, or the bench could not be built; 2 bad arguments, or FILE can't be read.
+Exit status: 0 all checks passed, or stale found the number; 1 a check failed, the bench could not be built, or stale
+was given no log of calls; 2 bad arguments, or FILE can't be read.
 """
 import io
 import re
@@ -32,8 +35,7 @@ sys.path.append(str(ROOT / "tests" / "independent"))
 
 from arguments import Parser
 from frames import HEADER, Noise, event, log_of, request, update, wide_event, write
-from logbook import Event, booked, call_of, lines as lines_of
-from logs import answers_to
+from logbook import MOST_TOLD, Event, Logbook, answer, booked, call_of, lines as lines_of
 from program import Failure, compare, run, shortened
 
 KEY = 32  # bytes of a key drawn
@@ -71,12 +73,15 @@ class Bench:
         return answers
 
     def work_out_again(self, name):
-        """Holds a run to what tests/independent/logbook.py works out from its log."""
+        """Holds a run to what tests/independent/logbook.py works out from its log, and gives the logbook at its end."""
         log = (self.directory / f"{name}.log").read_bytes()
+        book = Logbook()
+        expected = log_of(answer(book, line) for line in lines_of(io.BytesIO(log)))
         try:
-            compare(log, answers_to(log), (self.directory / f"{name}.answers").read_bytes())
+            compare(log, expected, (self.directory / f"{name}.answers").read_bytes())
         except Failure as why:
             raise Failure(f"{name}.log, {why}") from None
+        return book
 
 
 def came_due(answers):
@@ -362,20 +367,55 @@ def refusals(answers):
     return ", ".join(f"{number}: {count}" for number, count in sorted(numbers.items())) or "none"
 
 
+def require_frames(answers):
+    require(set(answers) != {b"16"}, "no line of this log is a frame: is it a log of calls?")
+
+
+def staleness(book):
+    """How stale the key is that a logbook ends with."""
+    since = "the last pool reseed" if book.reseeds else "the fresh start"
+    stopped = f", of which the state tells {MOST_TOLD}" if book.on_key() > MOST_TOLD else ""
+    unseeded = "; not seeded: there is no key yet" if book.generator.count == 0 else ""
+    return f"requests on the key since {since}: {book.on_key()}{stopped}{unseeded}"
+
+
 def october(bench):
     name, log = bench.station_log or ("a made log", log_of(october_lines()))
     print(f"The draws of {name} are worked out again by tests/independent/logbook.py.")
     answers = bench.run("october", log)
     print(f"{len(answers)} lines; refused, by number: {refusals(answers)}.")
-    require(set(answers) != {b"16"}, "no line of this log is a frame: is it a log of calls?")
-    bench.work_out_again("october")
+    require_frames(answers)
+    book = bench.work_out_again("october")
     keys = list(draws(answers))
     require(keys, "this log draws no key, so there was nothing to work out again")
     reseeds = sum(emptied(reply) > 0 for reply in answers)
     print(f"{reseeds} pool reseeds, {came_due(answers)} came due; {len(keys)} draws: each is what was worked out.")
+    print(staleness(book))
 
 
 CHECKS = {check.__name__: check for check in (april, may, july, october)}
+
+
+# ---- how stale the key is
+
+
+def last_reseed(lines, answers):
+    """The last line that made a pool reseed, from 1, with its clock; None where none did."""
+    made = [n for n, reply in enumerate(answers) if emptied(reply)]
+    return (made[-1] + 1, call_of(lines[made[-1]])[1]) if made else None
+
+
+def stale(log):
+    """Prints it for the log in a stream."""
+    book = Logbook()
+    lines = list(lines_of(log))
+    answers = [answer(book, line) for line in lines]
+    require_frames(answers)
+    last = last_reseed(lines, answers)
+    where = f"line {last[0]}, at {last[1]} ms" if last else "none"
+    print(f"{len(lines)} lines; refused, by number: {refusals(answers)}.")
+    print(f"last pool reseed: {where}")
+    print(staleness(book))
 
 
 def passes(name, bench):
@@ -395,15 +435,30 @@ def own_bench():
     return ROOT / "target" / "bin" / "bench_main"
 
 
+def answer_stale(parser, chosen):
+    """The exit status."""
+    for name in ("out", "bench"):
+        if getattr(chosen, name) is not None:
+            parser.error(f"--{name} goes with the checks, and stale takes none")
+    with parser.opened_or_standard_input(chosen.log) as log:
+        try:
+            stale(log)
+        except Failure as why:
+            parser.exit(1, f"checklist: {why}\n")
+    return 0
+
+
 def main():
     parser = Parser("checklist", __doc__)
-    parser.add_argument("check", choices=[*CHECKS, "year"])
+    parser.add_argument("check", choices=[*CHECKS, "year", "stale"])
     parser.add_argument("--log")
     parser.add_argument("--out", type=Path)
     parser.add_argument("--bench")
     chosen = parser.parse_args()
-    if chosen.log is not None and chosen.check not in ("october", "year"):
-        parser.error(f"--log goes with october, and {chosen.check} takes none")
+    if chosen.log is not None and chosen.check not in ("october", "year", "stale"):
+        parser.error(f"--log goes with october and stale, and {chosen.check} takes none")
+    if chosen.check == "stale":
+        return answer_stale(parser, chosen)
     station_log = None
     if chosen.log is not None:
         with parser.opened(chosen.log) as log:

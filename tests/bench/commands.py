@@ -8,9 +8,12 @@ import sys
 import tempfile
 from pathlib import Path
 
+ROOT = Path(__file__).resolve().parents[2]
+sys.path.append(str(ROOT / "tests" / "independent"))
+
+from frames import event, log_of, request, update, write
 from program import Failure
 
-ROOT = Path(__file__).resolve().parents[2]
 LOGS = ROOT / "tests" / "bench" / "logs"
 COMMANDS = ("bench", "logbook", "checklist")
 
@@ -52,8 +55,12 @@ def refuses(folder):
         tell([str(ROOT / "bin" / name), "a.log", "b.log"], folder, 2, "unrecognized arguments: b.log")
         tell([str(ROOT / "bin" / name), "missing.log"], folder, 2, f"{name}: missing.log: No such file or directory")
         tell([str(ROOT / "bin" / name), "."], folder, 2, f"{name}: .: Is a directory")
-    words = [str(ROOT / "bin" / "checklist"), "october", "--log", "missing.log"]
-    tell(words, folder, 2, "checklist: missing.log: No such file or directory")
+    checklist = str(ROOT / "bin" / "checklist")
+    for check in ("october", "stale"):
+        tell([checklist, check, "--log", "missing.log"], folder, 2, "checklist: missing.log: No such file or directory")
+    tell([checklist, "stale", "--log", "."], folder, 2, "checklist: .: Is a directory")
+    tell([checklist, "stale", "--out", "checked"], folder, 2, "--out goes with the checks, and stale takes none")
+    tell([checklist, "may", "--log", "a.log"], folder, 2, "--log goes with october and stale, and may takes none")
 
 
 def answers(folder):
@@ -106,7 +113,39 @@ def no_pass(folder):
             raise Failure(f"{' '.join(words)}: expected a failure with '{why}', found: {found}")
 
 
-CHECKS = (helps, refuses, answers, failing_streams, at_once, no_pass)
+def stale_logs():
+    """Lines of a log, and what is said of the key at its end, told by hand."""
+    page = bytes(range(64))
+    seed, filling = update(0, page), [event(7, 0, bytes(29)), event(900, 0, bytes(29))]
+    start, reseed = "requests on the key since the fresh start", "requests on the key since the last pool reseed"
+    yield [], f"{start}: 0; not seeded: there is no key yet"
+    yield filling, f"{start}: 0; not seeded: there is no key yet"
+    yield [seed, request(0, 16)], f"{start}: 2"
+    yield [*filling, request(5, 0)], f"{reseed}: 1"
+    refused = update(5, b""), b"0G", event(7, 32, page)
+    yield [request(5, 0), seed, *filling, write(5), *refused, update(5, page), write(6)], f"{reseed}: 3"
+    yield [seed] * 3 + [*filling, request(5, 0), *filling, request(105, 0), request(106, 0)], f"{reseed}: 1"
+
+
+def tells_staleness(folder):
+    """By a file's name or on standard input; October says the same of a log that draws a key."""
+    checklist = str(ROOT / "bin" / "checklist")
+    for n, (lines, expected) in enumerate(stale_logs()):
+        path = folder / f"stale-{n}.log"
+        path.write_bytes(log_of(lines))
+        with open(path, "rb") as log:
+            found = [tell([checklist, "stale", "--log", path.name], folder, 0, None)]
+            found.append(tell([checklist, "stale"], folder, 0, None, stdin=log))
+        if any(text.splitlines()[-1] != expected for text in found):
+            raise Failure(f"stale, {path.read_bytes()}: expected '{expected}', found: {found}")
+    october = tell([checklist, "october", "--log", path.name, "--out", "checked"], folder, 0, None)
+    if f"\n{expected}\noctober: pass\n" not in october:
+        raise Failure(f"october, {path.read_bytes()}: expected '{expected}' and a pass, found: {october}")
+    (folder / "letter.log").write_bytes(b"Dear colleague,\nhere is the log.\n")
+    tell([checklist, "stale", "--log", "letter.log"], folder, 1, "no line of this log is a frame")
+
+
+CHECKS = (helps, refuses, answers, failing_streams, at_once, no_pass, tells_staleness)
 
 
 def main():

@@ -1,5 +1,5 @@
-/* Makes the calls of a script on standard input, all on one state, and prints their answers. script.py, beside this, says how
-   the lines are laid out. */
+/* Makes the calls of a script on standard input, all on one state, and prints their answers, each with the state's
+   key_requests after the call. script.py, beside this, says how the lines are laid out. */
 #define _POSIX_C_SOURCE 200809L
 #include "fortuna.h"
 #include "lent.h"
@@ -87,7 +87,6 @@ static void print_output(fortuna_answer a, const uint8_t *bytes, size_t length)
         printf(length > 0 ? " " : " -");
         print_bytes(bytes, length);
     }
-    printf("\n");
 }
 
 static void event(fortuna_state *state, char *rest)
@@ -96,7 +95,7 @@ static void event(fortuna_state *state, char *rest)
     uint32_t pool = word_number(&rest);
     const char *digits = word(&rest);
     uint8_t *data = lend_bytes(digits);
-    printf("%" PRIu32 "\n", fortuna_event(state, source, pool, data, bytes_in(digits)));
+    printf("%" PRIu32, fortuna_event(state, source, pool, data, bytes_in(digits)));
     give_back(data, bytes_in(digits));
 }
 
@@ -132,7 +131,7 @@ static void draw(fortuna_state *state, char *rest)
     uint32_t clock = word_number(&rest);
     uint64_t n = number(word(&rest), UINT64_MAX);
     fortuna_draw d = fortuna_random_below(state, clock, n, word_number(&rest));
-    printf("%" PRIu32 " %" PRIu32 " %" PRIu64 "\n", d.number, d.emptied, d.value);
+    printf("%" PRIu32 " %" PRIu32 " %" PRIu64, d.number, d.emptied, d.value);
 }
 
 static void shuffle(fortuna_state *state, char *rest)
@@ -145,8 +144,14 @@ static void shuffle(fortuna_state *state, char *rest)
     printf("%" PRIu32 " %" PRIu32 "%s", a.number, a.emptied, length > 0 ? "" : " -");
     for (size_t i = 0; i < length; i++)
         printf("%c%" PRIu16, i > 0 ? ',' : ' ', list[i]);
-    printf("\n");
     give_back(list, length * sizeof *list);
+}
+
+/* No call: the number that a run of so many requests would have left. */
+static void counted(fortuna_state *state, char *rest)
+{
+    state->key_requests = (uint16_t)number(word(&rest), UINT16_MAX);
+    printf("%d", FORTUNA_DONE);
 }
 
 static const struct {
@@ -155,6 +160,7 @@ static const struct {
 } calls[] = {
     {"event", event}, {"request", request}, {"update", update},
     {"write", write_seed}, {"draw", draw}, {"shuffle", shuffle},
+    {"counted", counted},
 };
 
 static void answer(fortuna_state *state, char *line)
@@ -163,6 +169,7 @@ static void answer(fortuna_state *state, char *line)
     for (size_t i = 0; i < sizeof calls / sizeof *calls; i++)
         if (strcmp(name, calls[i].name) == 0) {
             calls[i].make(state, line);
+            printf(" %" PRIu16 "\n", state->key_requests);
             return;
         }
     stop("a line with no call");

@@ -6,11 +6,14 @@
     write CLOCK
     draw CLOCK N TRIES
     shuffle CLOCK NUMBER,NUMBER,..
+    counted REQUESTS
 
-Numbers are decimal, bytes lower-case hexadecimal; `-` stands for no bytes and for the empty list. An answer is the
-number, for all but events then the pools emptied, and then the bytes of a request or seed call that was not refused, a
-draw's value, or the list that a shuffle left. Lines are bytes without their LF, and made by the names of the calls, as
-in tests/independent/frames.py; tests/c_interface/script.c reads them too."""
+The last is no call. It sets the requests on the key to a number up to 65,535 in a seeded state, as that many requests
+would have done: no script makes so many. Numbers are decimal, bytes lower-case hexadecimal; `-` stands for no bytes and
+for the empty list. An answer is the number, for all but events and `counted` then the pools emptied, and then the bytes
+of a request or seed call that was not refused, a draw's value, or the list that a shuffle left; last, for every line,
+the state's number of requests on the key. Lines are bytes without their LF, and made by the names of the calls, as in
+tests/independent/frames.py; tests/c_interface/script.c reads them too."""
 from logbook import SEED_SIZE
 
 # ---- lines of calls
@@ -56,6 +59,10 @@ def shuffle(clock, numbers):
     return b"shuffle " + reading(clock) + b" " + as_list(numbers)
 
 
+def counted(requests):
+    return b"counted %d" % requests
+
+
 # ---- reading and answering them
 
 
@@ -74,7 +81,9 @@ READERS = {
     "write": (int,),
     "draw": (int, int, int),
     "shuffle": (int, list_of),
+    "counted": (int,),
 }
+EMPTIES_NONE = ("event", "counted")  # their answers have no pools emptied, and no result
 
 
 def call_of(line):
@@ -94,13 +103,14 @@ def result_words(name, number, result):
 
 
 def answer(call, line):
-    """The answer to a line; call takes a call's name and arguments and gives number, pools emptied and result."""
+    """The answer to a line; call takes a call's name and arguments and gives number, pools emptied, result and the
+    state's number of requests on the key."""
     name, *arguments = call_of(line)
-    number, emptied, result = call(name, *arguments)
+    number, emptied, result, requests = call(name, *arguments)
     words = [b"%d" % number]
-    if name != "event":
+    if name not in EMPTIES_NONE:
         words += [b"%d" % emptied, *result_words(name, number, result)]
-    return b" ".join(words)
+    return b" ".join([*words, b"%d" % requests])
 
 
 def answers(call, script):

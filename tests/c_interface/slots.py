@@ -27,7 +27,8 @@ import generator
 import script
 import station
 from frames import Noise, log_of
-from logbook import MAX_LIST, MAX_TRIES, Logbook, Station
+from generator import MAX_REQUEST
+from logbook import MAX_LIST, MAX_TRIES, MOST_TOLD, Logbook, Station
 from logs import check_files, write_files
 from program import Failure, compare, run
 
@@ -39,21 +40,32 @@ SIZES = (0, 1, 2, 3, 255, 256, 257)
 SOURCES = (0, 255, 256, 65535, 65536, 2**32 - 1)  # the last two give 11, which no bench line can
 MUST_OCCUR = {
     *(("event", number) for number in (0, 11)),
+    *(("request", number) for number in (0, 14, 23)),
     *(("draw", number) for number in (0, 23, 31, 32, 33)),
     *(("draw with a reseed", number) for number in (0, 33)),
+    *(("draw of some tries", number) for number in (0, 33)),
+    *(("draw with a reseed, of some tries", number) for number in (0, 33)),
+    *((f"{name} on a stopped number", 0) for name in ("request", "update", "write", "draw", "shuffle")),
+    ("draw on a stopped number", 33),
     *(("shuffle", number) for number in (0, 23, 31)),
     ("shuffle with a reseed", 0),
 }
 SCARCE_SHUFFLES = {("shuffle", 33), ("shuffle with a reseed", 33)}  # with few tries
 
 
-def by(book):
-    """The calls of a logbook, by their names."""
-    return lambda name, *arguments: getattr(book, name)(*arguments)
+class Book(Logbook):
+    """The logbook, as a script calls it."""
+
+    def counted(self, requests):
+        self.served[self.reseeds] = requests
+        return 0, 0, b""
+
+    def call(self, name, *arguments):
+        return *getattr(self, name)(*arguments), self.key_requests()
 
 
 def answers_to(lines):
-    return script.answers(by(Logbook()), lines)
+    return script.answers(Book().call, lines)
 
 
 # ---- lines without chance
@@ -101,6 +113,7 @@ def unseeded(maker):
     yield from (script.draw(0, n, 1) for n in BOUNDS)
     yield from (script.draw(0, 10, tries) for tries in TRIES)
     yield from bound_lists(maker, 0)
+    yield from (script.request(0, 16), script.write(0))
     yield maker.event(0, 1)
     yield script.draw(0, 10, 64)
 
@@ -118,6 +131,32 @@ def timed(maker):
         yield from [*maker.filling(64), script.draw(mark, 1000, 64), *maker.filling(64)]
         yield from (script.draw(mark + 100, 1000, 64), script.shuffle(mark + 101, maker.numbers(5)))
         yield from [*maker.filling(64), script.shuffle(mark + 201, maker.numbers(4)), script.draw(mark + 202, 3, 64)]
+
+
+def counting(maker, clock):
+    """Calls of each kind near the end of the requests on the key, with several tries and past the end; then the calls
+    that begin anew, by a reseed at the first try too, and those that count nothing."""
+    for requests in (0, 1, MOST_TOLD - 2, MOST_TOLD - 1, MOST_TOLD):
+        counted = script.counted(requests)
+        for call in (
+            script.request(clock, 0),
+            script.update(clock, maker.take(64)),
+            script.write(clock),
+            script.draw(clock, 5, 1),
+            script.draw(clock, 2**31 + 1, 4),
+            script.shuffle(clock, maker.numbers(5)),
+        ):
+            yield from (counted, call, call)
+        for call in (
+            script.request(clock + 101, 3),
+            script.update(clock + 202, maker.take(64)),
+            script.draw(clock + 303, 129, 2),
+        ):
+            yield from [*maker.filling(64), counted, call]
+        clock += 303
+        yield from (counted, script.shuffle(clock, ()), script.shuffle(clock, (7,)), maker.event(1, 5))
+        yield from (script.event(1, 32, b"\x5a"), script.request(clock, MAX_REQUEST + 1), script.update(clock, b""))
+        yield from (script.draw(clock, 0, 1), script.shuffle(clock, (7, 7)))
 
 
 def any_list(maker):
@@ -151,7 +190,7 @@ def mixed(maker, turns):
 def made(title, turns):
     maker = Maker(title)
     lines = [*unseeded(maker), *bound_events(), *bound_draws(60), *bound_lists(maker, 100)]
-    return log_of([*lines, *scarce(maker, 10**6), *timed(maker), *mixed(maker, turns)])
+    return log_of([*lines, *scarce(maker, 10**6), *timed(maker), *counting(maker, 2000), *mixed(maker, turns)])
 
 
 def long_script():
@@ -173,6 +212,10 @@ class Writer(fuzz.Writer):
     form = script
     lengths = ([1, 5, 40, 150], [2, 4, 8, 2])
 
+    def __init__(self, chance):
+        super().__init__(chance)
+        self.book = Book()
+
     def source(self):
         return self.one_of([super().source(), self.chance.choice(SOURCES)], [4, 1])
 
@@ -193,26 +236,47 @@ class Writer(fuzz.Writer):
             numbers[first] = numbers[second]
         return script.shuffle(self.reading(), numbers)
 
+    def counted(self):
+        """An event in its place where the state is unseeded: with requests counted that is 21, which no script has."""
+        if self.book.generator.count == 0:
+            return self.event()
+        return script.counted(MOST_TOLD - self.chance.choice((0, 1, 2, 5, 64, MOST_TOLD)))
+
     def line(self):
-        makers = [self.right, self.draw, self.shuffle]
-        return self.one_of(makers, [20, 10, 4])()
+        makers = [self.right, self.draw, self.shuffle, self.counted]
+        return self.one_of(makers, [20, 10, 4, 1])()
 
     def output(self, line):
-        answer = script.answer(by(self.book), line)
-        return answer.split(b" ")[-1] if line.startswith((b"update", b"write")) else b""
+        answer = script.answer(self.book.call, line)
+        if not line.startswith((b"update", b"write")) or not answer.startswith(b"0 "):
+            return b""
+        return answer.split(b" ")[2]
 
 
 # ---- what occurred
 
 
+def ways(name, words, before):
+    """How a call went, told by its answer and the requests on the key before it."""
+    reseeds = name not in script.EMPTIES_NONE and words[1] != b"0"
+    requests = int(words[-1]) - (0 if reseeds else before)
+    yield name
+    if reseeds:
+        yield f"{name} with a reseed"
+    if name == "draw" and requests > 1:
+        yield "draw with a reseed, of some tries" if reseeds else "draw of some tries"
+    if int(words[-1]) == before == MOST_TOLD:
+        yield f"{name} on a stopped number"
+
+
 def occurred(lines, answers):
-    """How often each call had each number, and how often with pools emptied."""
+    """How often each call had each number, and how often with pools emptied and so on."""
     counts = Counter()
+    before = 0
     for line, answer in zip(lines.splitlines(), answers.splitlines()):
-        name, number, *rest = line.split()[0].decode(), *map(int, answer.split()[:2])
-        counts[name, number] += 1
-        if rest and rest[0]:
-            counts[f"{name} with a reseed", number] += 1
+        words = answer.split()
+        counts.update((way, int(words[0])) for way in ways(line.split()[0].decode(), words, before))
+        before = int(words[-1])
     return counts
 
 
@@ -245,14 +309,17 @@ class Carried:
         self.state = station.FRESH._replace(key=start.key, count=start.count)
 
     def call(self, name, *arguments):
+        if name == "counted":
+            self.state = self.state._replace(key_requests=arguments[0])
+            return 0, 0, b"", arguments[0]
         outcome = getattr(station, name)(self.state, *arguments)
         self.state = outcome.next
-        return outcome[:3]
+        return *outcome[:3], outcome.next.key_requests
 
     def station(self):
         s = self.state
         counter = generator.counter_bytes(s.count)
-        return Station(s.key, counter, s.last_reseed, s.reseed_count, s.reseeded, s.pools)
+        return Station(s.key, counter, s.last_reseed, s.reseed_count, s.reseeded, s.key_requests, s.pools)
 
 
 def with_tries(call, tries):
@@ -262,9 +329,9 @@ def with_tries(call, tries):
 
 def both(lines, tries, start=generator.FRESH):
     """The answers of either program, which are the same, as are the states left."""
-    book, carried = Logbook(), Carried(start)
+    book, carried = Book(), Carried(start)
     book.generator = start
-    answers = script.answers(with_tries(by(book), tries), lines)
+    answers = script.answers(with_tries(book.call, tries), lines)
     compare(lines, answers, script.answers(with_tries(carried.call, tries), lines))
     if book.station() != carried.station():
         raise Failure(f"after {lines.decode()}the states differ")

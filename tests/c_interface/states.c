@@ -2,16 +2,21 @@
    of standard output. tests/c_interface/states_fuzz.py writes the one and reads the other.
 
    A line is hexadecimal. First a byte for the call: 1 event, 2 request, 3 update, 4 write, 5 draw, 6 shuffle. Then the
-   state: key, counter, 32 times a pool's chain, tail and length, then last_reseed, reseed_count and a byte for
-   reseeded. Then source and pool for an event, or the clock; for a draw then n in 8 bytes and the tries in 4; for the
-   others the rest is the data, the buffer, or the list, 2 bytes a number. Numbers have their most significant byte
-   first. Back come the number, the pools emptied, the data, buffer or list after the call or the value drawn, in 8
-   bytes, and the next state, laid out the same. */
+   state: key, counter, 32 times a pool's chain, tail and length, then last_reseed, reseed_count, a byte for reseeded,
+   and key_requests in 2 bytes. Then source and pool for an event, or the clock; for a draw then n in 8 bytes and the
+   tries in 4; for the others the rest is the data, the buffer, or the list, 2 bytes a number. Numbers have their most
+   significant byte first. Back come the number, the pools emptied, the data, buffer or list after the call or the value
+   drawn, in 8 bytes, and the next state, laid out the same. */
 #define _POSIX_C_SOURCE 200809L
 #include "fortuna.h"
 #include "lent.h"
 
 enum { EVENT = 1, REQUEST, UPDATE, WRITE, DRAW, SHUFFLE };
+
+/* States stored before key_requests was there keep their size and the places of their other fields. */
+_Static_assert(sizeof(fortuna_state) == 3392, "the state's size");
+_Static_assert(offsetof(fortuna_state, reseeded) == 3384, "where reseeded stands");
+_Static_assert(offsetof(fortuna_state, key_requests) == 3386, "where key_requests stands");
 
 /* What is left to read of a line. */
 typedef struct {
@@ -56,6 +61,7 @@ static fortuna_state take_state(reader *r)
     s.last_reseed = (uint32_t)take_number(r, 4);
     s.reseed_count = (uint32_t)take_number(r, 4);
     s.reseeded = take_number(r, 1) != 0;
+    s.key_requests = (uint16_t)take_number(r, 2);
     return s;
 }
 
@@ -69,7 +75,7 @@ static void print_state(const fortuna_state *s)
         print_bytes(s->pools[i].tail, sizeof s->pools[i].tail);
         printf("%016llx", (unsigned long long)s->pools[i].length);
     }
-    printf("%08x%08x%02x\n", s->last_reseed, s->reseed_count, s->reseeded);
+    printf("%08x%08x%02x%04x\n", s->last_reseed, s->reseed_count, s->reseeded, s->key_requests);
 }
 
 static fortuna_answer call(

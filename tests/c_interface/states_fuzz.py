@@ -4,8 +4,9 @@
     tests/c_interface/states_fuzz.py PROGRAM [--seconds S] [--seed N]
 
 PROGRAM is tests/c_interface/states.c linked with the library, which says how a line is laid out. States and arguments
-are biased to the boundaries of every number. Prints how often each number occurred. Exits 1 where an answer differs,
-with the line that shows it, or where a number or a clause of 21 never occurred. The same seed gives the same calls."""
+are biased to the boundaries of every number. Prints how often each number occurred, and what became of the requests on
+the key. Exits 1 where an answer differs, with the line that shows it, or where a number, a clause of 21 or a way of
+counting requests never occurred. The same seed gives the same calls."""
 import argparse
 import random
 import subprocess
@@ -19,7 +20,7 @@ sys.path.append(str(Path(__file__).resolve().parents[1] / "independent"))
 
 import station
 from generator import MAX_COUNT, MAX_REQUEST, block_count
-from station import EMPTY, FRESH, MAX_POOL, POOLS, SEED_SIZE, Pool, State
+from station import EMPTY, FRESH, MAX_KEY_REQUESTS, MAX_POOL, POOLS, SEED_SIZE, Pool, State
 
 KINDS = ("event", "request", "update", "write", "draw", "shuffle")
 NUMBERS = {
@@ -30,6 +31,7 @@ NUMBERS = {
     "draw": (0, 21, 23, 24, 31, 32, 33),
     "shuffle": (0, 21, 23, 24, 31),
 }
+KEY_REQUESTS = (0, 1, MAX_KEY_REQUESTS - 2, MAX_KEY_REQUESTS - 1, MAX_KEY_REQUESTS)
 
 
 @dataclass
@@ -86,6 +88,7 @@ def state_hex(s):
         parts += [word.to_bytes(4, "big") for word in p.chain]
         parts += [p.tail, p.length.to_bytes(8, "big")]
     parts += [s.last_reseed.to_bytes(4, "big"), s.reseed_count.to_bytes(4, "big"), bytes([s.reseeded])]
+    parts += [s.key_requests.to_bytes(2, "big")]
     return b"".join(parts).hex()
 
 
@@ -131,7 +134,8 @@ def any_pool(r):
 def any_state(r):
     carry = 2 ** (8 * r.randrange(1, 16)) - r.randrange(1, 4)
     count = r.choice((1, carry, r.randrange(1, 2**20), r.randrange(1, 2**128)))
-    state = State(r.randbytes(32), count, tuple(any_pool(r) for _ in range(POOLS)), 0, 0, False)
+    requests = r.choice((*KEY_REQUESTS, r.randrange(300), r.randrange(2**16)))
+    state = State(r.randbytes(32), count, tuple(any_pool(r) for _ in range(POOLS)), 0, 0, False, requests)
     if r.random() < 0.3:
         return state
     return state._replace(last_reseed=r.getrandbits(32), reseed_count=r.getrandbits(32), reseeded=True)
@@ -234,7 +238,7 @@ def stray_chain(r, case):
 
 
 def unseeded(r, case):
-    case.change(key=bytes(32), count=0, last_reseed=0, reseed_count=0, reseeded=False)
+    case.change(key=bytes(32), count=0, last_reseed=0, reseed_count=0, reseeded=False, key_requests=0)
     case.set_pool(0, pool_of(r, r.choice((0, 63, 64, 65))))
     case.clock = r.choice((0, 100, 101, r.getrandbits(32)))
 
@@ -251,6 +255,12 @@ def flag_without_counter(r, case):
     case.change(reseeded=True, last_reseed=r.getrandbits(32), reseed_count=r.getrandbits(32))
 
 
+def requests_without_counter(r, case):
+    """Its neighbours are among all states: counter 0 with no request, and a counter above 0 with the flag clear."""
+    unseeded(r, case)
+    case.change(key_requests=r.choice((1, 256, MAX_KEY_REQUESTS, r.randrange(1, 2**16))))
+
+
 def timer_without_flag(r, case):
     stray = 1 << r.randrange(32)
     mark, number = r.choice(((stray, 0), (0, stray), (stray, r.getrandbits(32))))
@@ -261,9 +271,8 @@ def rubbish(r, case):
     pools = tuple(
         Pool(tuple(r.getrandbits(32) for _ in range(8)), r.randbytes(64), r.getrandbits(64)) for _ in range(POOLS)
     )
-    case.state = State(
-        r.randbytes(32), r.getrandbits(128), pools, r.getrandbits(32), r.getrandbits(32), r.random() < 0.5
-    )
+    timer = r.getrandbits(32), r.getrandbits(32), r.random() < 0.5
+    case.state = State(r.randbytes(32), r.getrandbits(128), pools, *timer, r.getrandbits(16))
 
 
 def little_room(r, case):
@@ -292,13 +301,19 @@ def counter_at_end(r, case):
     case.change(count=min(count, MAX_COUNT))
 
 
+def nearly_stopped(r, case):
+    """Requests that bring the number of requests on the key to its end or near it; draws and shuffles make several."""
+    case.change(key_requests=MAX_KEY_REQUESTS - r.choice((0, 1, 2, 3, 5, 64)))
+
+
 def as_it_is(r, case):
     pass
 
 
 POOL_CLAUSES = [pool_too_long, dirty_tail, stray_chain]
-MALFORMED = POOL_CLAUSES + [key_without_counter, flag_without_counter, timer_without_flag, rubbish]
-OUTPUT = [unseeded, nearly_due, much_used, counter_at_end]
+SEED_CLAUSES = [key_without_counter, flag_without_counter, requests_without_counter]
+MALFORMED = POOL_CLAUSES + SEED_CLAUSES + [timer_without_flag, rubbish]
+OUTPUT = [unseeded, nearly_due, much_used, counter_at_end, nearly_stopped]
 TWISTS = {
     "event": [as_it_is, bad_source, bad_pool, bad_data, little_room, unseeded] + MALFORMED,
     "request": [as_it_is, bad_request] + MALFORMED + OUTPUT,
@@ -316,9 +331,29 @@ def largest_cases(r):
     yield Case("shuffle", any_state(r), numbers=tuple(r.sample(range(2**16), 256)))
 
 
+def buffer_for(r, kind):
+    return r.randbytes(SEED_SIZE if kind in ("update", "write") else 16)
+
+
+def counted_cases(r):
+    """Each call at each bound of the requests on the key: unseeded, seeded by an update alone, and after a pool reseed;
+    a pool reseed due or not. The draw makes some tries, and its neighbour all that it has."""
+    seeded = FRESH._replace(key=r.randbytes(32), count=1)
+    for state in (FRESH, seeded, seeded._replace(last_reseed=5, reseed_count=1, reseeded=True)):
+        for requests in KEY_REQUESTS:
+            for size in (0, 64):
+                pools = (pool_of(r, size), *FRESH.pools[1:])
+                counted = state._replace(pools=pools, key_requests=requests)
+                for kind in KINDS:
+                    lent = {"buffer": buffer_for(r, kind), "numbers": (4, 3, 2, 1)}
+                    yield Case(kind, counted, 106, n=2**31 + 1, tries=5, **lent)
+                yield Case("draw", counted, 106, n=2**31 + 1, tries=1)
+
+
 def fixed_cases(r):
     for kind in KINDS:
-        yield Case(kind, FRESH, buffer=bytes(SEED_SIZE if kind in ("update", "write") else 16))
+        yield Case(kind, FRESH, buffer=buffer_for(r, kind))
+    yield from counted_cases(r)
     for largest in largest_cases(r):
         yield largest
         for beyond in (0, 1):
@@ -341,17 +376,28 @@ def cases(r):
 
 # ---- comparing and counting
 
+WAYS = ("gone on", "begun anew", "stopped")
+
+
+def way_counted(outcome):
+    """What became of the requests on the key in an accepted call."""
+    if outcome.emptied:
+        return "begun anew"
+    return "stopped" if outcome.next.key_requests == MAX_KEY_REQUESTS else "gone on"
+
 
 class Tally:
     def __init__(self):
         self.numbers = {kind: Counter() for kind in KINDS}
         self.clauses = Counter({name: 0 for name in station.CLAUSES})
         self.emptied = Counter()
+        self.counted = Counter({(kind, way): 0 for kind in KINDS[1:] for way in WAYS})
 
     def note(self, case, outcome):
         self.numbers[case.kind][outcome.number] += 1
         if case.kind != "event" and outcome.number in (0, 33):
             self.emptied[outcome.emptied] += 1
+            self.counted[case.kind, way_counted(outcome)] += 1
         broken = station.clauses(case.state) if outcome.number == 21 else []
         if len(broken) == 1:
             self.clauses[broken[0]] += 1
@@ -363,6 +409,7 @@ class Tally:
         for kind in KINDS:
             yield from (f"{kind} {n}" for n in NUMBERS[kind] if not self.numbers[kind][n])
         yield from (f"21 by its clause '{name}' alone" for name, n in self.clauses.items() if n == 0)
+        yield from (f"{kind}, requests on the key {way}" for (kind, way), n in self.counted.items() if n == 0)
 
     def show(self):
         for kind in KINDS:
@@ -370,6 +417,8 @@ class Tally:
             print(f"{kind:8} {counts}")
         print("21 by one clause alone:", ", ".join(f"{name} {n}" for name, n in self.clauses.items()))
         print("pools emptied:", "  ".join(f"{k}: {n}" for k, n in sorted(self.emptied.items())))
+        for way in WAYS:
+            print(f"requests on the key {way}:", "  ".join(f"{kind} {self.counted[kind, way]}" for kind in KINDS[1:]))
 
 
 def ask(program, line):

@@ -42,6 +42,7 @@ def lines():
     yield f"slot at 1200 ms, pools emptied {slot.emptied}: {slot.buffer}"
     shuffled = station.shuffle(slot.next, 1250, tuple(range(1, 9)))
     yield f"polling list: {' '.join(map(str, shuffled.buffer))}"
+    yield f"requests on the key since the last pool reseed: {shuffled.next.key_requests}"
     yield f"seed for the next start: {station.write(shuffled.next, 2000, updated.buffer).buffer.hex()}"
     yield "a log's answers:"
     yield from (line.decode().rstrip() for line in logbook.answers(io.BytesIO(LOG)))

@@ -8,7 +8,7 @@ Draws and shuffles (02, i) are calls of it too, though no frame makes one; tests
 SHA-256 is Python's hashlib, AES-256 is tests/independent/aes256.py."""
 import signal
 import sys
-from collections import defaultdict, namedtuple
+from collections import Counter, defaultdict, namedtuple
 
 import generator
 from arguments import Parser
@@ -25,10 +25,11 @@ MAX_TRIES = 64
 MAX_LIST = 256
 TRY_SIZE = 4
 TRY_BLOCKS = 3  # of a request of 4 bytes
+MOST_TOLD = 65535  # where the state's number of requests on the key stops
 
 Event = namedtuple("Event", "source pool data r")
 Pool = namedtuple("Pool", "chain tail length")
-Station = namedtuple("Station", "key counter mark reseed_number reseeded pools")
+Station = namedtuple("Station", "key counter mark reseed_number reseeded key_requests pools")
 
 
 def gained(event):
@@ -61,6 +62,7 @@ class Logbook:
         self.events = []
         # their bytes in arrival order, by pool and by the reseed booked for, so that a long run needs no search
         self.bookings = [defaultdict(bytearray) for _ in range(POOLS)]
+        self.served = Counter()  # requests, by the pool reseeds made up to each, its own included
 
     # ---- what follows from the bookings
 
@@ -86,11 +88,20 @@ class Logbook:
     def due(self, clock):
         return self.length(0) >= 64 and (self.reseeds == 0 or (clock - self.mark) % CLOCK > 100)
 
+    def on_key(self):
+        """The requests since the last pool reseed, however many (02, iv)."""
+        return self.served[self.reseeds]
+
+    def key_requests(self):
+        """The number that the state has of them."""
+        return min(self.on_key(), MOST_TOLD)
+
     def station(self):
         """The state that the station must have."""
         pools = tuple(running(self.contents(i)) for i in range(POOLS))
         counter = generator.counter_bytes(self.generator.count)
-        return Station(self.generator.key, counter, self.mark, self.reseeds % 2**32, self.reseeds > 0, pools)
+        timer = self.mark, self.reseeds % 2**32, self.reseeds > 0
+        return Station(self.generator.key, counter, *timer, self.key_requests(), pools)
 
     # ---- refusals: input numbers before state numbers, the lower first; 21 never arises
 
@@ -197,6 +208,7 @@ class Logbook:
         buffer = bytearray(n)
         number, self.generator = generator.request(self.generator, buffer)
         assert number == 0
+        self.served[self.reseeds] += 1
         return 0, emptied, bytes(buffer)
 
     def drawn(self, clock, n, tries):

@@ -1,5 +1,5 @@
 #!/usr/bin/env python3
-"""01's 'Readings on the workbench', with those of 02 (iii), and the bounds of the refusals, asked of logbook.py.
+"""01's 'Readings on the workbench', those of 02 (iii) and (iv), and the bounds of the refusals, asked of logbook.py.
 
     tests/independent/readings.py      exits 1 at the first that does not hold"""
 import hashlib
@@ -74,7 +74,7 @@ def views():
     book.request(500, b"")
     after = book.station()
     lengths = [sum(pool.length for pool in view.pools) for view in (before, after)]
-    return before[2:5], after[2:5], lengths
+    return before[2:6], after[2:6], lengths
 
 
 END = 2**128
@@ -108,8 +108,33 @@ def readings():
     yield "seed", [Logbook().write(0, bytes(n))[0] for n in (63, 64, 65)], [15, 23, 15]
     yield "refused buffer", Logbook().update(0, b"\x05" * 63), (15, 0, b"\x05" * 63)
     yield "view of a pool", all(digest_of_view(n) for n in range(200)), True
-    yield "view", views(), ((77, 2**32 - 1, True), (500, 0, True), [64, 0])
+    yield "view", views(), ((77, 2**32 - 1, True, 0), (500, 0, True, 1), [64, 0])
+    yield from key_readings()
     yield from frame_readings()
+
+
+def on_key(calls, size=0, r=1, before=0):
+    """The number of requests on the key after calls at 1000 ms, with pool 0 at `size` bytes and `before` on the key."""
+    book = filled(size, r)
+    book.served[r] = before
+    for name, *arguments in calls:
+        getattr(book, name)(*([1000] if name != "event" else []), *arguments)
+    return book.key_requests()
+
+
+def key_readings():
+    """Requests on one key (02, iv)."""
+    request, update, write = ("request", b""), ("update", bytes(range(64))), ("write", bytes(64))
+    yield "fresh, requests on the key", Logbook().station().key_requests, 0
+    yield "each one more", [on_key([call], before=9) for call in (request, update, write)], [10] * 3
+    yield "each with a pool reseed", [on_key([call], 64, before=9) for call in (request, update, write)], [1] * 3
+    once, often = ("draw", 2**32, 64), ("shuffle", tuple(range(100)))
+    yield "a draw of one try", [on_key([once], size, before=9) for size in (0, 64)], [10, 1]
+    yield "a shuffle of tries", [on_key([often], size, before=9) > 99 for size in (0, 64)], [True, True]
+    nothing = (("event", 7, 3, b"\xa1"), ("event", 7, 32, b"\xa1"), ("shuffle", ()), ("shuffle", (5,)), ("draw", 0, 1))
+    yield "those that count nothing", [on_key([call], 64, before=9) for call in nothing], [9] * 5
+    yield "where it stops", [on_key([request] * n, before=65534) for n in (0, 1, 2)], [65534, 65535, 65535]
+    yield "after the stop", on_key([request], 64, before=10**6), 1
 
 
 def frame_readings():

@@ -12,15 +12,16 @@ import generator
 from sha256 import INITIAL, compress, finish
 
 Pool = namedtuple("Pool", "chain tail length")
-State = namedtuple("State", "key count pools last_reseed reseed_count reseeded")
+State = namedtuple("State", "key count pools last_reseed reseed_count reseeded key_requests")
 Outcome = namedtuple("Outcome", "number emptied buffer next")
 
 POOLS = 32
 SEED_SIZE = 64
 MAX_POOL = 2**61 - 1
 DRAW_TRIES = 64
+MAX_KEY_REQUESTS = 65535
 EMPTY = Pool(tuple(INITIAL), bytes(64), 0)
-FRESH = State(bytes(32), 0, (EMPTY,) * POOLS, 0, 0, False)
+FRESH = State(bytes(32), 0, (EMPTY,) * POOLS, 0, 0, False, 0)
 
 assert finish(INITIAL, b"abc", 3) == hashlib.sha256(b"abc").digest()
 
@@ -52,6 +53,7 @@ CLAUSES = {
     "K without C": lambda s: s.count == 0 and any(s.key),
     "flag without C": lambda s: s.count == 0 and s.reseeded,
     "mark or number without flag": lambda s: not s.reseeded and (s.last_reseed, s.reseed_count) != (0, 0),
+    "requests without C": lambda s: s.count == 0 and s.key_requests > 0,
 }
 
 
@@ -84,7 +86,13 @@ def pool_reseed(state, clock):
     used = [i for i in range(POOLS) if number % 2**i == 0]
     reseeded = reseed(state, b"".join(pool_digest(state.pools[i]) for i in used))
     pools = tuple(EMPTY if i in used else p for i, p in enumerate(state.pools))
-    return len(used), reseeded._replace(pools=pools, last_reseed=clock, reseed_count=number, reseeded=True)
+    timer = {"last_reseed": clock, "reseed_count": number, "reseeded": True, "key_requests": 0}
+    return len(used), reseeded._replace(pools=pools, **timer)
+
+
+def one_more(key_requests):
+    """The number of requests on the key (02, iv) with one counted, up to where it stops."""
+    return key_requests if key_requests == MAX_KEY_REQUESTS else key_requests + 1
 
 
 def random_data(state, clock, size):
@@ -93,7 +101,8 @@ def random_data(state, clock, size):
         emptied, state = pool_reseed(state, clock)
     buffer = bytearray(size)
     after = done(generator.request(generator.State(state.key, state.count), buffer))
-    return Outcome(0, emptied, bytes(buffer), state._replace(key=after.key, count=after.count))
+    left = state._replace(key=after.key, count=after.count, key_requests=one_more(state.key_requests))
+    return Outcome(0, emptied, bytes(buffer), left)
 
 
 def output_refusal(state, clock, blocks):

@@ -1,6 +1,6 @@
 //! A safe wrapper of the proved Fortuna. include/fortuna.h says what each call does, and how much stack it needs.
 use std::fmt;
-use std::mem::size_of;
+use std::mem::{offset_of, size_of};
 
 /// Why a call was refused, with the number of the header. After a refusal state and buffers are as before, save that
 /// after `NoneDrawn` the state has advanced by the tries made.
@@ -115,6 +115,7 @@ struct State {
     last_reseed: u32,
     reseed_count: u32,
     reseeded: bool,
+    key_requests: u16,
 }
 
 #[repr(C)]
@@ -130,9 +131,10 @@ struct Draw {
     value: u64,
 }
 
-// The sizes that the header's structs have in C.
+// The sizes that the header's structs have in C, and the place of the state's last field.
 const _: () = assert!(size_of::<Pool>() == 104 && size_of::<State>() == 3392);
 const _: () = assert!(size_of::<Answer>() == 8 && size_of::<Draw>() == 16);
+const _: () = assert!(offset_of!(State, key_requests) == 3386);
 
 extern "C" {
     fn fortuna_new() -> State;
@@ -210,6 +212,13 @@ impl Fortuna {
         let answer =
             unsafe { fortuna_shuffle(&mut self.state, clock, list.as_mut_ptr(), list.len()) };
         drawn(answer.number, answer.emptied)
+    }
+
+    /// How stale the key is: the number of accepted requests, seed calls and single tries included, since the last
+    /// pool reseed or the fresh start, stopping at 65,535. The request, seed call or try that makes the reseed counts
+    /// as 1.
+    pub fn key_requests(&self) -> u16 {
+        self.state.key_requests
     }
 }
 

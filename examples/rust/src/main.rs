@@ -79,6 +79,14 @@ fn order_stations(f: &mut Fortuna, clock: u32) -> Result<(), Refusal> {
     Ok(())
 }
 
+/// How stale the key is, for whoever services the digitiser.
+fn show_staleness(f: &Fortuna) {
+    println!(
+        "requests on the key since the last pool reseed: {}",
+        f.key_requests()
+    );
+}
+
 /// A stored log of calls, run in one call: an event of source 7, one of source 900, a request, and
 /// a line that is no frame.
 fn replay() {
@@ -105,6 +113,7 @@ fn main() -> Result<(), Refusal> {
     misplace_event(&mut f);
     draw_slot(&mut f, 1200);
     order_stations(&mut f, 1250)?;
+    show_staleness(&f);
 
     f.write(2000, &mut flash)?;
     println!("seed for the next start: {}", hexadecimal(&flash));
