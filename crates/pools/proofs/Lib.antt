@@ -18,5 +18,6 @@ pub mod OneReseed
 pub mod Passing
 pub mod Tries
 pub mod EveryTry
+pub mod TriesMade
 pub mod Bounds
 pub mod Slots

@@ -34,17 +34,24 @@ first false b c d e = refl
 -- ---- a state that is not malformed
 
 module _ (s : Fortuna) (fine : malformed s ≡ false) where
+  -- the clauses of 21 that are not a pool's
+  abbrev fields : Bool
+  fields = malformedFields (decode (s .generator)) (s .reseeded) (s .«last_reseed») (s .«reseed_count») (s .«key_requests»)
+
   pub pools-formed : anyPool malformedPool (s .pools) ≡ false
   unfolding malformed
-  pools-formed = neither (anyPool malformedPool (s .pools)) (malformedFields (decode (s .generator)) (s .reseeded) (s .«last_reseed») (s .«reseed_count») (s .«key_requests»)) fine .0
+  pools-formed = neither (anyPool malformedPool (s .pools)) fields fine .0
 
-  pub fields-formed : malformedFields (decode (s .generator)) (s .reseeded) (s .«last_reseed») (s .«reseed_count») (s .«key_requests») ≡ false
+  pub fields-formed : fields ≡ false
   unfolding malformed
-  fields-formed = neither (anyPool malformedPool (s .pools)) (malformedFields (decode (s .generator)) (s .reseeded) (s .«last_reseed») (s .«reseed_count») (s .«key_requests»)) fine .1
+  fields-formed = neither (anyPool malformedPool (s .pools)) fields fine .1
 
   pub generator-formed : Generator.malformed (decode (s .generator)) ≡ false
   unfolding malformedFields
-  generator-formed = first (Generator.malformed (decode (s .generator))) (unseededReseeded (decode (s .generator) .count) (s .reseeded)) (strayTimer (s .reseeded) (s .«last_reseed») (s .«reseed_count»)) (unseededCounted (decode (s .generator) .count) (s .«key_requests»)) fields-formed
+  generator-formed =
+      let w = decode (s .generator) in
+      first (Generator.malformed w) (unseededReseeded (w .count) (s .reseeded))
+      (strayTimer (s .reseeded) (s .«last_reseed») (s .«reseed_count»)) (unseededCounted (w .count) (s .«key_requests»)) fields-formed
 
 -- what a served request of n bytes leaves
 abbrev pub Serves : Fortuna → ℕ → ℕ → ℕ → Fortuna → List ℕ → Type 0
@@ -118,16 +125,27 @@ module _ (s : Fortuna) (clock : ℕ) (seed : List ℕ) (ok : updateNumber (malfo
       }
 
   -- g is what the generator's reseed left
-  seeded-state : (g : Generator) → g ≡ reseeded (s .generator) seed → _≡_ {A = Fortuna} (record { generator = g; pools = s .pools; «last_reseed» = s .«last_reseed»; «reseed_count» = s .«reseed_count»; reseeded = s .reseeded; «key_requests» = s .«key_requests» }) (reseedWithSeed s seed)
+  abbrev withNext : Generator → Fortuna
+  withNext g =
+      record {
+        generator = g;
+        pools = s .pools;
+        «last_reseed» = s .«last_reseed»;
+        «reseed_count» = s .«reseed_count»;
+        reseeded = s .reseeded;
+        «key_requests» = s .«key_requests»;
+      }
+
+  seeded-state : (g : Generator) → g ≡ reseeded (s .generator) seed → withNext g ≡ reseedWithSeed s seed
   unfolding reseedWithSeed withGenerator
   seeded-state g e = rw (e, update-reseeded)
 
   pub update-servable : (d : Bool) (g : Generator) → d ≡ due s clock → g ≡ reseeded (s .generator) seed
-      → (d ≡ due (record { generator = g; pools = s .pools; «last_reseed» = s .«last_reseed»; «reseed_count» = s .«reseed_count»; reseeded = s .reseeded; «key_requests» = s .«key_requests» }) clock) × Servable (record { generator = g; pools = s .pools; «last_reseed» = s .«last_reseed»; «reseed_count» = s .«reseed_count»; reseeded = s .reseeded; «key_requests» = s .«key_requests» }) clock (length seed)
+      → (d ≡ due (withNext g) clock) × Servable (withNext g) clock (length seed)
   unfolding due poolAt
   update-servable d g e f = (e, rw (seeded-state g f, sized) seeded-servable)
 
   pub update-serves : (g : Generator) → g ≡ reseeded (s .generator) seed → (emptied : ℕ) (next : Fortuna) (bytes : List ℕ)
-      → Serves (record { generator = g; pools = s .pools; «last_reseed» = s .«last_reseed»; «reseed_count» = s .«reseed_count»; reseeded = s .reseeded; «key_requests» = s .«key_requests» }) clock (length seed) emptied next bytes → Serves (reseedWithSeed s seed) clock seedSize emptied next bytes
+      → Serves (withNext g) clock (length seed) emptied next bytes → Serves (reseedWithSeed s seed) clock seedSize emptied next bytes
   unfolding seedSize
   update-serves g f emptied next bytes e = rw (seeded-state g f, sized) at e

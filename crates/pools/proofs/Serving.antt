@@ -100,10 +100,18 @@ module _ (s : Fortuna) (clock : ℕ) (out : List ℕ) (ok : Servable s clock (le
   ready true e = rw e (ready-due s clock (length out) ok e)
   ready false e = rw e (ready-not-due s clock (length out) ok e)
 
-  pub serve-is : (q : Fortuna) (emptied : ℕ) (g : Generator) (bytes : List ℕ) (count : ℕ) → count ≡ countRequest (q .«key_requests») → (q ≡ reseedIfDue s clock) × (emptied ≡ emptiedBy s clock)
+  pub serve-is : (q : Fortuna) (emptied : ℕ) (g : Generator) (bytes : List ℕ) (count : ℕ) → count ≡ countRequest (q .«key_requests»)
+      → (q ≡ reseedIfDue s clock) × (emptied ≡ emptiedBy s clock)
       → (g ≡ requested (q .generator) out) × (bytes ≡ requestBuffer (q .generator) out)
       → (emptied ≡ randomData s clock (length out) .emptied)
-      × (record { generator = g; pools = q .pools; «last_reseed» = q .«last_reseed»; «reseed_count» = q .«reseed_count»; reseeded = q .reseeded; «key_requests» = count }
+      × (record {
+        generator = g;
+        pools = q .pools;
+        «last_reseed» = q .«last_reseed»;
+        «reseed_count» = q .«reseed_count»;
+        reseeded = q .reseeded;
+        «key_requests» = count;
+      }
       ≡ randomData s clock (length out) .next)
       × (bytes ≡ randomData s clock (length out) .buffer)
   unfolding randomData withRequest

@@ -134,7 +134,8 @@ module _ (s : Fortuna) (clock : ℕ) where
       let fits : made .count ≤ maxCounter = rw count (omega arith) in
       let some : made .count ≡ 0 → ⊥ = λ z. omega (arith, count) in
       let quiet : due (tryAt clock s .next) clock ≡ false = unfold tryAt in quiet-after s clock trySize in
-      let next : counterOf (tryAt clock s .next) ≡ made .count = rw try-is (unfold counterOf withRequest in ap (λ (w : GeneratorState). w .count) (decode-encode made fits)) in
+      let next : counterOf (tryAt clock s .next) ≡ made .count =
+      rw try-is (unfold counterOf withRequest in ap (λ (w : GeneratorState). w .count) (decode-encode made fits)) in
       record {
         formed = rw try-is (with-formed (reseedIfDue s clock) made fits some (held-formed s clock all (p .formed)) (held-timer s clock (p .formed)));
         keyed = rw next (some-keyed (made .count) (due (tryAt clock s .next) clock) some);

@@ -6,6 +6,7 @@ use mathlib.Core.List.{List, [], _∷_, _++_, List·Memᴰ}
 use Prim.Native.Nat.{ℕ, zero, suc, _+_, _-_, _*_}
 use lib.Dec.{ltb}
 use lib.ListN.{length}
+use Rattle.laws.specs.Lists.{joined}
 use Rattle.slots.specs.Fair.{tryValue}
 use Rattle.slots.specs.Shuffle.{exchange}
 use Rattle.pools.specs.Events.{poolCount}
@@ -38,6 +39,24 @@ callTries s (update clock seed) = []
 callTries s (write clock seed) = []
 callTries s (draw clock n d) = drawTries (tryAt clock) n d s
 callTries s (shuffle clock list) = shuffleTries (tryAt clock) (length list - 1) list s
+
+-- the tries of a draw or a shuffle are made one after the other, the first in the state found; the last leaves the call's state, and what
+-- the call enciphered is what they enciphered
+unfoldable pub Follows : {S : Type 0} → (S → Effect S) → S → List S → S → Type 0
+Follows serve s [] end = s ≡ end
+Follows serve s (t ∷ ts) end = (t ≡ s) × Follows serve (serve t .next) ts end
+
+pub record TriesMade {S : Type 0} (serve : S → Effect S) (s : S) (made : List S) (e : Effect S) : Type 0 where
+  pub follow : Follows serve s made (e .next)
+  pub trace : e .trace ≡ joined (λ t. serve t .trace) made
+
+abbrev pub DrawTriesLaw : Type 0
+DrawTriesLaw = (s : Fortuna) (clock n d : ℕ) → TriesMade (tryAt clock) s (callTries s (draw clock n d)) (callEffect s (draw clock n d))
+
+abbrev pub ShuffleTriesLaw : Type 0
+ShuffleTriesLaw =
+    (s : Fortuna) (clock : ℕ) (list : List ℕ) →
+    TriesMade (tryAt clock) s (callTries s (shuffle clock list)) (callEffect s (shuffle clock list))
 
 -- a call that passes its one check lets every try pass: no 4-byte request is refused midway. As in code, the state has its 32 pools
 abbrev pub EveryTryPasses : Type 0

@@ -20,6 +20,7 @@ use Rattle.pools.specs.Refusals.{seedInput, updateState, updateNumber, writeNum
 use Rattle.pools.specs.Refusals.{maxBelow, maxTries, maxList, drawInput, drawNumber, listInput, shuffleState, shuffleNumber}
 use Rattle.pools.specs.Effects.{unchanged, withPool, addEvent, withGenerator, withRequest, nextReseed, poolReseed, reseedIfDue, emptiedBy, randomData, reseedWithSeed, updateSeed, writeSeed}
 use Rattle.pools.specs.Draws.{trySize, tries, leaving, after, shuffleFrom, shuffled, tryAt}
+use Rattle.pools.specs.Tries.{drawTries, shuffleTries}
 use Rattle.pools.specs.Calls.{inputBuffer, callNumber, callEffect, callFound, callValue, effectOf, outcome, step}
 use Rattle.reference.specs.Readings.{wholeBlocks, reseededState, seededState}
 
@@ -33,9 +34,14 @@ unfoldable pub counting : Unit {0}
 unfolding value littleEndian maxCounter decode encode initial blockCount Generator.malformed Generator.maxRequest Operations.fresh
 counting = tt
 
+-- the clauses of 21 on K, C, the flag, the timer and the requests
+unfoldable pub clausing : Unit {0}
+unfolding unseededReseeded strayTimer unseededCounted malformedFields
+clausing = tt
+
 -- a fresh state, and 21
 unfoldable pub forming : Unit {0}
-unfolding poolCount tooLong dirtyTail strayChain malformedPool fresh poolAt counterOf anyPool unseededReseeded strayTimer unseededCounted malformedFields malformed
+unfolding poolCount tooLong dirtyTail strayChain malformedPool fresh poolAt counterOf anyPool clausing malformed
 forming = tt
 
 -- the numbers of events, of requests and seed calls, of draws and shuffles
@@ -77,7 +83,7 @@ seeding = tt
 
 -- the rule of draws and shuffles
 unfoldable pub drawing : Unit {0}
-unfolding value leastFrom bitsFor tryValue trySize tryAt tries leaving after unchanged maxTries exchange shuffleFrom shuffled
+unfolding value leastFrom bitsFor tryValue trySize tryAt tries leaving after unchanged maxTries exchange shuffleFrom shuffled drawTries shuffleTries
 drawing = tt
 
 -- the states that the rows start from

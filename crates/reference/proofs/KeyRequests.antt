@@ -25,7 +25,7 @@ use Rattle.pools.proofs.EachTry.{Kept, Begun, begun-tries, begun-shuffled, idle
 use Rattle.pools.proofs.OneReseed.{quiet-after}
 use Rattle.reference.specs.Timer.{requests}
 use Rattle.reference.specs.Provenance.{dueFor}
-use Rattle.reference.specs.KeyRequests.{requestsOf, requestsMade, sinceReseed, OnOneKey, DrawCounts}
+use Rattle.reference.specs.KeyRequests.{requestsOf, requestsMade, sinceReseed, OnOneKey, CountStep}
 use Rattle.reference.proofs.Simulation.{count-concrete}
 use Rattle.reference.proofs.Timer.{seeded-due, step-emptied}
 
@@ -211,13 +211,6 @@ pub on-one-key : (calls : List Call) → OnOneKey calls
 unfolding stateAfter fresh maxKeyRequests
 on-one-key calls = run-counts calls 0 fresh 0 refl
 
-pub draw-counted : (s : Fortuna) (clock n d : ℕ) → DrawCounts s clock n d
+pub count-step : CountStep
 unfolding maxKeyRequests
-draw-counted s clock n d =
-    record {
-      accepted = λ e. unfold requestsMade requestsOf in rw e (omega arith);
-      more = λ k e m. rw (e, m) at (step-counts s 9 k (draw clock n d));
-      anew = λ k e m. rw (lt-ltb 0 _ e, m) at (step-counts s 9 k (draw clock n d));
-      all = λ k e m. rw (e, m) at (step-counts s 9 k (draw clock n d));
-      stops = λ k e m. rw (e, m) at (step-counts s 65533 k (draw clock n d));
-    }
+count-step s c n before = step-counts s n before c

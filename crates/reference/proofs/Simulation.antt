@@ -166,7 +166,13 @@ requested s k made = record { emptied = k; buffer = made .bytes; next = withRequ
 
 requested-concrete : (b : Reference) (n k : ℕ) → Sound b
     → requested (concrete b) k (pseudoRandomData (decode (concrete b .generator)) n)
-    ≡ concreteEffect (record { emptied = k; buffer = closedRandomData (b .generator) n .bytes; next = requestedState b (closedRandomData (b .generator) n .next); trace = closedRandomData (b .generator) n .trace })
+    ≡ concreteEffect
+    (record {
+      emptied = k;
+      buffer = closedRandomData (b .generator) n .bytes;
+      next = requestedState b (closedRandomData (b .generator) n .next);
+      trace = closedRandomData (b .generator) n .trace;
+    })
 unfolding requested concreteEffect
 requested-concrete b n k s =
     ap (λ (w : GeneratorState). requested (concrete b) k (pseudoRandomData w n)) (decode-concrete b s)

@@ -16,6 +16,7 @@ use Rattle.pools.specs.Schedule.{usedPools}
 use Rattle.pools.specs.Effects.{Effect, randomData}
 use Rattle.pools.specs.Draws.{Drawn, tries, shuffled, tryAt}
 use Rattle.pools.specs.State.{fresh, poolAt, counterOf, malformed}
+use Rattle.pools.specs.Tries.{drawTries, shuffleTries}
 use Rattle.pools.specs.Calls.{Call, event, request, update, write, draw, shuffle, callNumber, Outcome, outcome, step}
 use Rattle.reference.specs.Readings.{wholeBlocks, reseededState, seededState}
 
@@ -277,6 +278,15 @@ LateFoundRow =
     (map (λ (i : ℕ). shuffled late (10 ∷ 11 ∷ 12 ∷ 13 ∷ []) i .found) (0 ∷ 1 ∷ []) ≡ false ∷ true ∷ [])
     × (map (λ (i : ℕ). shuffled late (10 ∷ 11 ∷ 12 ∷ 13 ∷ []) i .effect .next) (0 ∷ 1 ∷ []) ≡ 65 ∷ 67 ∷ [])
 
+-- the tries that these draws and shuffles make: as many as it takes, and none after a value; 64 of the second place where none finds one
+abbrev pub DrawTriesRow : Type 0
+DrawTriesRow = map (λ (d : ℕ). drawTries given 6 d 0) (1 ∷ 2 ∷ 64 ∷ []) ≡ (0 ∷ []) ∷ (0 ∷ 1 ∷ []) ∷ (0 ∷ 1 ∷ []) ∷ []
+
+abbrev pub ShuffleTriesRow : Type 0
+ShuffleTriesRow =
+    (shuffleTries given 3 (10 ∷ 11 ∷ 12 ∷ 13 ∷ []) 0 ≡ 0 ∷ 1 ∷ 2 ∷ 3 ∷ [])
+    × (map (λ (i : ℕ). length (shuffleTries late 3 (10 ∷ 11 ∷ 12 ∷ 13 ∷ []) i)) (0 ∷ 1 ∷ []) ≡ 65 ∷ 66 ∷ [])
+
 -- a try is a request for 4 bytes
 abbrev pub TryRow : Type 0
 TryRow = (s : Fortuna) (clock : ℕ) → tryAt clock s ≡ randomData s clock 4
@@ -322,6 +332,13 @@ abbrev pub CountClauseRow : Type 0
 CountClauseRow =
     (map (λ (n : ℕ). malformed (withRequests fresh n)) (0 ∷ 1 ∷ 65535 ∷ []) ≡ false ∷ true ∷ true ∷ [])
     × (map (λ (n : ℕ). malformed (withRequests (seededState 1) n)) (0 ∷ 1 ∷ 65535 ∷ []) ≡ false ∷ false ∷ false ∷ [])
+
+-- such a state refuses every call, before 23
+abbrev pub CountOrderRow : Type 0
+CountOrderRow =
+    answers (withRequests fresh 1)
+    (event 7 0 (1 ∷ []) ∷ request 0 [] ∷ update 0 firstSeed ∷ write 0 firstSeed ∷ draw 0 6 1 ∷ shuffle 0 [] ∷ shuffle 0 (5 ∷ 6 ∷ []) ∷ [])
+    ≡ replicate 7 21
 
 -- the number on the key that a call leaves
 unfoldable pub countAfter : Fortuna → Call → ℕ
@@ -371,6 +388,8 @@ pub record Boundaries : Type 0 where
   pub order : OrderRow
   pub late : LateRow
   pub lateFound : LateFoundRow
+  pub drawTries : DrawTriesRow
+  pub shuffleTries : ShuffleTriesRow
   pub tryBytes : TryRow
   pub outcomes : OutcomeRow
   pub updateBytes : UpdateBytesRow
@@ -386,6 +405,7 @@ pub record Boundaries : Type 0 where
   pub keptNumber : KeptNumberRow
   pub generatorReseed : ReseedRow
   pub countClause : CountClauseRow
+  pub countOrder : CountOrderRow
   pub counts : CountRow
   pub countsAnew : CountAnewRow
   pub countsKept : CountKeptRow

@@ -1,9 +1,9 @@
--- Request (iv): how stale the key is. The number in the state counts the requests made since the last pool reseed.
+-- Request (iv): how stale the key is. The number in the state counts the requests made since the last pool reseed, up to 65,535.
 -- Assumes nothing.
 use mathlib.Core.Path.{_≡_}
 use mathlib.Core.Bool.{cond}
 use mathlib.Core.List.{List, [], _∷_}
-use Prim.Native.Nat.{ℕ, _+_, _<_, min}
+use Prim.Native.Nat.{ℕ, _+_, min}
 use lib.Dec.{ltb}
 use lib.ListN.{length}
 use Rattle.laws.specs.Refusals.{guarded}
@@ -35,18 +35,8 @@ sinceReseed n s (c ∷ calls) =
 abbrev pub OnOneKey : List Call → Type 0
 OnOneKey calls = stateAfter calls .«key_requests» ≡ min 65535 (sinceReseed 0 fresh calls)
 
--- a draw on any state, by the tries that it makes: 5 tries, without a pool reseed and with one; 64, which may end in 33; past 65,535
-pub record DrawCounts (s : Fortuna) (clock n d : ℕ) : Type 0 where
-  pub accepted : callNumber s (draw clock n d) ≡ 0 → requestsMade s (draw clock n d) ≡ length (callTries s (draw clock n d))
-  pub more :
-      s .«key_requests» ≡ 9 → step s (draw clock n d) .effect .emptied ≡ 0 → requestsMade s (draw clock n d) ≡ 5 →
-      step s (draw clock n d) .effect .next .«key_requests» ≡ 14
-  pub anew :
-      s .«key_requests» ≡ 9 → 0 < step s (draw clock n d) .effect .emptied → requestsMade s (draw clock n d) ≡ 5 →
-      step s (draw clock n d) .effect .next .«key_requests» ≡ 5
-  pub all :
-      s .«key_requests» ≡ 9 → step s (draw clock n d) .effect .emptied ≡ 0 → requestsMade s (draw clock n d) ≡ 64 →
-      step s (draw clock n d) .effect .next .«key_requests» ≡ 73
-  pub stops :
-      s .«key_requests» ≡ 65533 → step s (draw clock n d) .effect .emptied ≡ 0 → requestsMade s (draw clock n d) ≡ 5 →
-      step s (draw clock n d) .effect .next .«key_requests» ≡ 65535
+-- a call on any state, whatever its number before: a call that empties pools starts anew, and each request that it makes is one more
+abbrev pub CountStep : Type 0
+CountStep =
+    (s : Fortuna) (c : Call) (n : ℕ) → s .«key_requests» ≡ min 65535 n →
+    step s c .effect .next .«key_requests» ≡ min 65535 (cond (ltb 0 (step s c .effect .emptied)) 0 n + requestsMade s c)

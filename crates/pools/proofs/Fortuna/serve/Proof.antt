@@ -38,7 +38,8 @@ returns c =
     (λ w. served-due (a .self) (a .clock) (j .self) (j .emptied) (sym (p .0) ∙ w .0 .taken) (w .4 ∙ w .1 .ensures .0, w .3 ∙ w .1 .ensures .1))
     (λ w. served-not-due (a .self) (a .clock) (j .self) (j .emptied) (sym (p .0) ∙ w .0 .left) (w .2, w .1))
     (j .came) in
-    serve-is (a .self) (a .clock) (a .out .now) (p .1) (j .self) (j .emptied) (g .result .next) (g .last .1 .0) (c .counted .result) (c .counted .ensures) before (g .ensures .1, g .ensures .2)
+    serve-is (a .self) (a .clock) (a .out .now) (p .1) (j .self) (j .emptied) (g .result .next) (g .last .1 .0)
+    (c .counted .result) (c .counted .ensures) before (g .ensures .1, g .ensures .2)
 
 pub serve-spec : {M : Type 1} → statement M
 serve-spec = tie.close (tie.spec reseed-requires pseudo-random-data-requires counted-requires same-length returns)

@@ -38,7 +38,10 @@ returns-3 c =
 returns-4 : tie.Need-returns-4
 unfolding malformedFields unseededReseeded strayTimer
 returns-4 c =
-    rw (← c .before .before .before .before .is-malformed .ensures, c .before .before .before .if1 .left, c .before .before .if2 .left, and-false, eq-eqb _ _ (c .before .if3 .left), ne-eqb _ _ (c .if4 .taken))
+    let timed = c .before in
+    let flagged = timed .before in
+    let formed = flagged .before in
+    rw (← formed .before .is-malformed .ensures, formed .if1 .left, flagged .if2 .left, and-false, eq-eqb _ _ (timed .if3 .left), ne-eqb _ _ (c .if4 .taken))
 
 is-unseeded-requires-2 : tie.Need-is-unseeded-requires-2
 is-unseeded-requires-2 c κs = search needs
@@ -46,13 +49,39 @@ is-unseeded-requires-2 c κs = search needs
 returns-5 : tie.Need-returns-5
 unfolding malformedFields unseededReseeded strayTimer unseededCounted
 returns-5 c =
-    rw (← c .before .before .before .before .before .before .is-malformed .ensures, c .before .before .before .before .before .if1 .left, c .before .before .before .before .if2 .left, and-false, eq-eqb _ _ (c .before .before .before .if3 .left), eq-eqb _ _ (c .before .before .if4 .left), ne-eqb _ _ (c .before .if5 .taken))
+    let some = c .before in
+    let numbered = some .before in
+    let timed = numbered .before in
+    let flagged = timed .before in
+    let formed = flagged .before in
+    rw (
+      ← formed .before .is-malformed .ensures,
+      formed .if1 .left,
+      flagged .if2 .left,
+      and-false,
+      eq-eqb _ _ (timed .if3 .left),
+      eq-eqb _ _ (numbered .if4 .left),
+      ne-eqb _ _ (some .if5 .taken),
+    )
     (c .is-unseeded2 .ensures ∙ unseeded-is _ ∙ sym (and-true _))
 
 returns-6 : tie.Need-returns-6
 unfolding malformedFields unseededReseeded strayTimer unseededCounted
 returns-6 c =
-    rw (← c .before .before .before .before .before .is-malformed .ensures, c .before .before .before .before .if1 .left, c .before .before .before .if2 .left, and-false, eq-eqb _ _ (c .before .before .if3 .left), eq-eqb _ _ (c .before .if4 .left), eq-eqb _ _ (c .if5 .left), and-false)
+    let numbered = c .before in
+    let timed = numbered .before in
+    let flagged = timed .before in
+    let formed = flagged .before in
+    rw (
+      ← formed .before .is-malformed .ensures,
+      formed .if1 .left,
+      flagged .if2 .left,
+      and-false,
+      eq-eqb _ _ (timed .if3 .left),
+      eq-eqb _ _ (numbered .if4 .left),
+      eq-eqb _ _ (c .if5 .left),
+      and-false,
+    )
 
 pub fields-malformed-spec : {M : Type 1} → statement M
 fields-malformed-spec =
