@@ -96,8 +96,11 @@ def replace(folder, path, old, new):
 
 
 def edits_of(crate, everything):
-    """The edits of a crate, in the order of their labels."""
+    """The edits of a crate, in the order of their labels. A file there that neither rt nor this program would try is an error."""
     folder = folder_of(crate) / "must-fail"
+    for file in folder.rglob("*"):
+        if file.is_file() and not (file.suffix == ".edit" and file.parent in (folder, folder / "quick")):
+            raise Failure(f"{file} is no edit: nobody tries it")
     files = sorted((folder / "quick").glob("*.edit"))
     if everything:
         files += sorted(folder.glob("*.edit"))
@@ -233,6 +236,8 @@ def try_edits(trial, edits, jobs):
             failed.append(edit)
 
     total = len(failed) + sum(map(len, edits.values()))
+    if not total:
+        raise Failure("there is no edit to try")
     run(trial, [edit for found in edits.values() for edit in found], jobs, report)
     print(f"edits: {total - len(failed)} of {total} refused, as they must be")
     for edit in failed:

@@ -51,9 +51,22 @@ count-concrete m n =
       | no h ↦ rw (min-eq-right {n = n} {m = m} (omega arith))
     ]
 
+-- the model's count
+requested-count : (b : Reference) (w : GeneratorState) → b .keyRequests + 1 ≡ requestedState b w .keyRequests
+unfolding requestedState
+requested-count b w = omega arith
+
 with-request-concrete : (b : Reference) (w : GeneratorState) → withRequest (concrete b) w ≡ concrete (requestedState b w)
 unfolding withRequest concrete requestedState poolContents countRequest
-with-request-concrete b w = rw (count-concrete maxKeyRequests (b .keyRequests))
+with-request-concrete b w =
+    λ i. record {
+      generator = encode w;
+      pools = concrete b .pools;
+      «last_reseed» = b .lastReseed;
+      «reseed_count» = b .reseeds % 2 ^ 32;
+      reseeded = ltb 0 (b .reseeds);
+      «key_requests» = (count-concrete maxKeyRequests (b .keyRequests) ∙ ap (min maxKeyRequests) (requested-count b w)) i;
+    }
 
 -- ---- an event
 
