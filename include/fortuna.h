@@ -176,7 +176,7 @@ typedef struct {
    How stale the key is: read state.key_requests, at any time between calls. It is the number of accepted requests, seed
    calls and single tries included, since the last pool reseed or the fresh start, stopping at 65,535. The request, seed
    call or try that makes the pool reseed leaves 1; tries before FORTUNA_NONE_DRAWN count too. The reseed that
-   fortuna_update makes with its seed is no pool reseed, so an update adds 1. An event, a refused call and a shuffle of
+   fortuna_update makes with its seed is not a pool reseed, so an update adds 1. An event, a refused call and a shuffle of
    0 or 1 numbers change nothing.
 
    A state stored by a version without key_requests. Size (3,392 bytes) and the places of all other fields are as they

@@ -13,6 +13,7 @@ from pathlib import Path
 
 ROOT = Path(__file__).resolve().parents[2]
 HEADER = ROOT / "include" / "fortuna.h"
+README = ROOT / "README.md"
 ROW = re.compile(r"^ +(fortuna_\w+) +([\d,]+)$", re.MULTILINE)
 CALLED = {"memcpy", "memset"}
 RELATIVE = {"R_X86_64_PC32", "R_X86_64_PLT32"}  # an address as a distance from the instruction
@@ -59,8 +60,12 @@ def stack_faults(archive, exported):
 def link_faults(archive, called):
     if called != CALLED:
         yield f"it calls {', '.join(sorted(called))}, and README.md says {', '.join(sorted(CALLED))}"
-    text, data, bss, *_ = map(int, said_by("size", archive).splitlines()[1].split()[:3])
+    members = [row.split()[:3] for row in said_by("size", archive).splitlines()[1:]]
+    text, data, bss = (sum(map(int, column)) for column in zip(*members))
     print(f"{text:,} bytes of code and constants, {data} of data, {bss} of bss")
+    told = re.search(r"has (\d+)\s+KB of code and constants", README.read_text())
+    if not told or int(told[1]) != round(text / 1000):
+        yield f"it has {text:,} bytes of code and constants, and README.md says {told[1] if told else 'no number of'} KB"
     if data or bss:
         yield "it has variables, and README.md says that it has none"
     kinds = set(re.findall(r"R_X86_64_\w+", said_by("readelf", "-rW", archive)))

@@ -15,8 +15,7 @@ use Rattle.pools.specs.Calls.{Call, Outcome, step, run, stateAfter}
 use Rattle.reference.specs.Reference.{Reference, empty, poolContents, referenceRun, referenceAfter}
 
 -- the state that the model says: its K, C and mark, R modulo 2^32, the flag set exactly when R is above 0, the requests on the key up to
--- 65,535, and for each pool
--- the running hash, tail and length that the bytes it holds leave
+-- 65,535, and for each pool the running hash, tail and length that the bytes it holds leave
 unfoldable pub concrete : Reference → Fortuna
 concrete b =
     record {

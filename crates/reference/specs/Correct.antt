@@ -23,5 +23,5 @@ pub record RunCorrect (calls : List Call) : Type 0 where
   -- no counter block is enciphered twice, and none is left out
   pub counters : NoRepeat (counterBlocks calls)
   pub counted : Counted calls
-  -- the number in the state says how many requests were made on the key
+  -- the number in the state is how many requests were made on the key, up to 65,535
   pub key-requests : OnOneKey calls
