@@ -4,6 +4,7 @@
     tests/gate/edits.py [CRATE...]      the edits crates/NAME/must-fail/quick/*.edit, of all crates or of those named
     tests/gate/edits.py CRATE/LABEL     an edit of either kind
     tests/gate/edits.py --all ..        also crates/NAME/must-fail/*.edit, which rt ci tries from nothing
+    tests/gate/edits.py --beside-rt ..  beside a run of rt that starts now: each crate as soon as rt has proved it
     tests/gate/edits.py --self-test     whether edits that show nothing are told from those that do
 
 For each edit rt proves the whole crate again. Here a check takes the modules that the edit does not reach from
@@ -24,7 +25,9 @@ import time
 from concurrent.futures import ThreadPoolExecutor, as_completed
 from pathlib import Path
 
-from prover import TARGET, Failure, Prover, copy_of, crates, folder_of
+from prover import LIMIT, TARGET, Failure, Prover, copy_of, crates, folder_of
+
+BEGAN = time.time()
 
 MARKS = ("file:", "old:", "new:")
 FAULT = re.compile(r"(?P<place>\S+): error: (?P<text>.*)|note: (?P<place2>\S+): it is not proved that (?P<text2>.*)")
@@ -222,22 +225,52 @@ def chosen(names, everything):
     return edits
 
 
-def try_edits(trial, edits, jobs):
-    """Tries edits, given by their crates; how many were not refused as they must be."""
-    failed = []
-    for name, why in readied(trial, list(edits), jobs).items():
-        if why:
-            print(f"edits: {name}: NOT TRIED: {why}", flush=True)
-            failed += edits.pop(name)
+def await_proof(crate, since):
+    """Waits until a run of rt that started after a moment has proved a crate. rt's log of a crate ends with a line that says so."""
+    log_of = TARGET / "log" / f"{crate}.out"
+    while True:
+        try:
+            said = "\n" + log_of.read_text(errors="replace") if log_of.stat().st_mtime >= since else ""
+        except FileNotFoundError:
+            said = ""
+        if f"\nrt: {crate} proved" in said:
+            return
+        if f"\nrt: {crate} NOT PROVED" in said or time.time() > since + LIMIT:
+            raise Failure("rt did not prove it")
+        time.sleep(1)
 
-    def report(edit, text, refused, left):
+
+def by_proofs(trial, edits, since):
+    """Edits by their crates, the crates in rt's order, each once it is proved; why a crate can't be tried in place of its edits."""
+    for name in [name for name in crates() if name in edits]:
+        try:
+            await_proof(name, since)
+            trial.ready(name)
+            yield name, None
+        except (Failure, OSError) as why:
+            yield name, why
+
+
+def try_edits(trial, edits, jobs, since):
+    """Tries edits, given by their crates; how many were not refused as they must be. With a moment: beside a run of rt since then."""
+    total = left = sum(map(len, edits.values()))
+    if not total:
+        raise Failure("there is no edit to try")
+    failed = []
+
+    def report(edit, text, refused, _):
+        nonlocal left
+        left -= 1
         print(f"edits: {edit}: {text}; {left} left", flush=True)
         if not refused:
             failed.append(edit)
 
-    total = len(failed) + sum(map(len, edits.values()))
-    if not total:
-        raise Failure("there is no edit to try")
+    for name, why in by_proofs(trial, edits, since) if since else readied(trial, list(edits), jobs).items():
+        if why:
+            print(f"edits: {name}: NOT TRIED: {why}", flush=True)
+            failed += edits.pop(name)
+        elif since:
+            run(trial, edits.pop(name), jobs, report)
     run(trial, [edit for found in edits.values() for edit in found], jobs, report)
     print(f"edits: {total - len(failed)} of {total} refused, as they must be")
     for edit in failed:
@@ -318,6 +351,7 @@ def arguments():
     parser.add_argument("names", nargs="*", metavar="CRATE[/LABEL]", help="a crate, or one edit (default: all crates)")
     parser.add_argument("--all", action="store_true", help="try the edits of must-fail/ too")
     parser.add_argument("--jobs", type=int, default=os.cpu_count() or 1, help="how many at a time (default: the processors)")
+    parser.add_argument("--beside-rt", action="store_true", help="wait for rt, which starts now, to prove each crate")
     parser.add_argument("--self-test", action="store_true", help="see that edits that show nothing are told")
     parser.error = wrong_usage
     options = parser.parse_args()
@@ -338,7 +372,8 @@ def main():
         try:
             edits = chosen(options.names, options.all)
             trial = Trial(Path(room))
-            failed = self_test(trial, options.jobs) if options.self_test else try_edits(trial, edits, options.jobs)
+            since = BEGAN if options.beside_rt else None
+            failed = self_test(trial, options.jobs) if options.self_test else try_edits(trial, edits, options.jobs, since)
         except Failure as why:
             print(f"edits: {why}", file=sys.stderr)
             sys.exit(2)
