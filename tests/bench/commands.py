@@ -95,7 +95,9 @@ def at_once(folder):
     runs = [subprocess.Popen(words, cwd=folder, **pipes) for _ in range(4)]
     for started in runs:
         output, said = started.communicate(timeout=300)
-        expect(["bench", "example.log"], (started.returncode, output, said.decode()), 0, None)
+        # on a busy machine one may have to wait for the others, and says so
+        said = said.decode().replace("bench: another bench is proving; waiting for it\n", "")
+        expect(["bench", "example.log"], (started.returncode, output, said), 0, None)
 
 
 def no_pass(folder):
