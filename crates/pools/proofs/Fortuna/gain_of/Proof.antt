@@ -46,9 +46,11 @@ loop-less c = search needs
 
 loop-again : tie.Need-loop-again Inv-loop μ-loop
 loop-again c =
-    let at = c .before .before .before .before .before .loop in
-    let start = c .before .before .before .before .before .before .before .before .before .before in
-    let below = c .before .before .before .before .loop-test .taken in
+    let looped = c .before .before .before .before in
+    let at = looped .before .loop in
+    let fields = looped .before .before in
+    let start = fields .before .before .before .before in
+    let below = looped .loop-test .taken in
     let ps = start .args .t1 .pools in
     let looked = c .before .pool-malformed .ensures in
     ⊎-elim
