@@ -14,7 +14,7 @@ pub use fortuna_generator::fortuna_generator_blocks;
 pub use fortuna_generator::fortuna_generator_new;
 pub use fortuna_generator::fortuna_generator_request;
 pub use fortuna_generator::fortuna_generator_reseed;
-pub use sha256::fortuna_double_sha256;
+pub use sha256::fortuna_sha_d256;
 pub use sha256::fortuna_sha256;
 pub use slot_draws::FortunaDraw;
 pub use slot_draws::fortuna_random_below;

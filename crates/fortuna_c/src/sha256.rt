@@ -4,7 +4,7 @@ ghost use mathlib.Core.Bool.{cond};
 ghost use lib.Dec.{eqb};
 ghost use lib.ListN.{length};
 ghost use Rattle.hash.specs.Sha256.{sha256};
-ghost use Rattle.hash.specs.Double.{maxMessage, maxDMessage, D};
+ghost use Rattle.hash.specs.ShaD.{maxMessage, maxDMessage, D};
 ghost use Rattle.hash.specs.Answers.{number, lengthNumber};
 ghost use Rattle.fortuna_c.specs.Buffers.{digestBuffer};
 use hash::Hashed;
@@ -30,8 +30,8 @@ pub extern "C" fn fortuna_sha256(data: &[u8], digest: &mut [u8; 32]) -> u32
 }
 
 #[no_mangle]
-pub extern "C" fn fortuna_double_sha256(data: &[u8], digest: &mut [u8; 32]) -> u32
+pub extern "C" fn fortuna_sha_d256(data: &[u8], digest: &mut [u8; 32]) -> u32
     ensures { λ r. ⌜ (r ≡ lengthNumber maxDMessage (length (now («data» .entry)))) × (now (digest .exit) ≡ digestBuffer maxDMessage (length (now («data» .entry))) (now (digest .entry)) (D (now («data» .entry)))) ⌝ }
 {
-    handed_out(hash::double_sha256(data), digest)
+    handed_out(hash::sha_d256(data), digest)
 }

@@ -2,7 +2,7 @@
 -- Assumes nothing.
 use mathlib.Core.Path.{refl}
 use Rattle.laws.specs.Lists.{allZero}
-use Rattle.hash.specs.Double.{maxMessage, maxDMessage}
+use Rattle.hash.specs.ShaD.{maxMessage, maxDMessage}
 use Rattle.generator.specs.Counter.{value, littleEndian, maxCounter}
 use Rattle.generator.specs.Steps.{initial, blockCount, generateBlocks, blockData, pseudoRandomData}
 use Rattle.generator.specs.Refusals.{maxRequest, maxSeed, malformed, unseeded, spent, stateNumber, reseedNumber, outputNumber, blocksNumber, requestNumber}

@@ -8,7 +8,7 @@ use native.Mathlib.Omega.{arith}
 use lib.Dec.{eqb, ltb}
 use lib.ListN.{length}
 use borrow.Author.Tests.{le-ltb}
-use Rattle.hash.specs.Double.{maxDMessage}
+use Rattle.hash.specs.ShaD.{maxDMessage}
 use Rattle.hash.proofs.Laws.{d-message-room}
 use Rattle.generator.specs.Counter.{value, maxCounter}
 use Rattle.generator.specs.Steps.{GeneratorState, decode, encode, reseed, blockCount, pseudoRandomData}

@@ -6,7 +6,7 @@ use Prim.Native.Nat.{ℕ, _+_, _-_, _≤_, _<_}
 use native.Mathlib.Omega.{arith}
 use lib.Dec.{ltb, lit≤}
 use borrow.Author.Tests.{lt-ltb, le-ltb}
-use Rattle.hash.specs.Double.{maxDMessage}
+use Rattle.hash.specs.ShaD.{maxDMessage}
 use Rattle.hash.proofs.Laws.{d-message-room}
 use Rattle.generator.specs.Refusals.{maxSeed}
 

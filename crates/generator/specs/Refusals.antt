@@ -5,7 +5,7 @@ use Prim.Native.Nat.{ℕ, _+_, _-_}
 use lib.Dec.{eqb, ltb}
 use Rattle.laws.specs.Lists.{allZero}
 use Rattle.laws.specs.Refusals.{refuse}
-use Rattle.hash.specs.Double.{maxDMessage}
+use Rattle.hash.specs.ShaD.{maxDMessage}
 use Rattle.generator.specs.Counter.{maxCounter}
 use Rattle.generator.specs.Steps.{GeneratorState, blockCount}
 

@@ -4,7 +4,7 @@
 use mathlib.Core.List.{List, [], _∷_, _++_}
 use Prim.Native.Nat.{ℕ, zero, suc, _+_, _/_}
 use lib.ListN.{take, replicate}
-use Rattle.hash.specs.Double.{D}
+use Rattle.hash.specs.ShaD.{D}
 use Rattle.cipher.specs.Aes.{cipher}
 use Rattle.generator.specs.Counter.{value, littleEndian, counterBlock}
 use Rattle.generator.specs.declared.Generator.{Generator}

@@ -120,7 +120,7 @@ impl Generator {
     {
         let key = self.key;
         let counter = self.counter;
-        let hashed = hash::double_sha256_joined(&key, seed);
+        let hashed = hash::sha_d256_joined(&key, seed);
         let digest = hashed.digest;
         let after = increment(counter);
         Generator {

@@ -7,7 +7,7 @@ use Prim.Native.Nat.{ℕ, _+_}
 use lib.Dec.{ltb}
 use lib.ListN.{length, replicate}
 use Rattle.hash.specs.Hasher.{absorb}
-use Rattle.hash.specs.Double.{maxMessage}
+use Rattle.hash.specs.ShaD.{maxMessage}
 use Rattle.hash.specs.Answers.{lengthNumber, digestWithin, absorbed}
 use Rattle.hash.specs.declared.hasher.Hasher.{Hasher}
 

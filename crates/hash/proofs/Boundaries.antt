@@ -7,9 +7,9 @@ use Rattle.hash.specs.Padding.{zeroBytes, padding}
 use Rattle.hash.specs.Block.{nextWord, schedule, T₁, T₂, round, rounds, compress}
 use Rattle.hash.specs.Sha256.{blocks, digestFrom, sha256}
 use Rattle.hash.specs.Hasher.{zeroFilled, absorbFrom, absorb, finish}
-use Rattle.hash.specs.Double.{maxMessage, maxDMessage, maxPoolLength, D}
+use Rattle.hash.specs.ShaD.{maxMessage, maxDMessage, maxPoolLength, D}
 use Rattle.hash.specs.Answers.{lengthNumber}
-use Rattle.hash.specs.Boundaries.{messages, digests, passed, PaddingsRow, LengthsRow, MessageLimitRow, DoubleLimitRow, PoolLimitRow, StandardRow, EdgesRow, DoubleRow, FinishesRow, AbsorbsRow, LongestRow, Boundaries}
+use Rattle.hash.specs.Boundaries.{messages, digests, passed, PaddingsRow, LengthsRow, MessageLimitRow, ShaDLimitRow, PoolLimitRow, StandardRow, EdgesRow, ShaDRow, FinishesRow, AbsorbsRow, LongestRow, Boundaries}
 
 -- what a digest computes with, named once: whatever unfolds it unfolds all that its own line names
 digesting : Unit {0}
@@ -28,9 +28,9 @@ message-limit : MessageLimitRow
 unfolding lengthNumber maxMessage
 message-limit = refl
 
-double-limit : DoubleLimitRow
+sha-d-limit : ShaDLimitRow
 unfolding lengthNumber maxDMessage maxMessage
-double-limit = refl
+sha-d-limit = refl
 
 pool-limit : PoolLimitRow
 unfolding lengthNumber maxPoolLength maxDMessage maxMessage
@@ -44,9 +44,9 @@ edges : EdgesRow
 unfolding digesting
 edges = refl
 
-double : DoubleRow
+sha-d : ShaDRow
 unfolding digesting D
-double = refl
+sha-d = refl
 
 finishes : FinishesRow
 unfolding digesting finish passed
@@ -66,11 +66,11 @@ boundaries =
       paddings = paddings;
       lengths = lengths;
       messageLimit = message-limit;
-      doubleLimit = double-limit;
+      shaDLimit = sha-d-limit;
       poolLimit = pool-limit;
       standard = standard;
       edges = edges;
-      double = double;
+      shaD = sha-d;
       finishes = finishes;
       absorbs = absorbs;
       longest = longest;

@@ -13,7 +13,7 @@ use Rattle.laws.proofs.Tabulate.{length-tabulate}
 use Rattle.hash.specs.Constants.{H⁰}
 use Rattle.hash.specs.Sha256.{blocks, digestFrom, sha256}
 use Rattle.hash.specs.Hasher.{zeroFilled, emptyHasher, hasherOf, absorbFrom, absorb, finish}
-use Rattle.hash.specs.Double.{maxMessage, maxDMessage, maxPoolLength, D, emptyPool, poolOf, poolDigest}
+use Rattle.hash.specs.ShaD.{maxMessage, maxDMessage, maxPoolLength, D, emptyPool, poolOf, poolDigest}
 use Rattle.hash.specs.Answers.{lengthNumber, digestWithin, absorbed}
 use Rattle.hash.specs.declared.hasher.Hasher.{Hasher}
 use Rattle.hash.proofs.Absorb as Absorb

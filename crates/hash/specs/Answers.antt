@@ -5,7 +5,7 @@ use mathlib.Core.List.{List}
 use Prim.Native.Nat.{ℕ, _+_}
 use lib.Dec.{ltb}
 use lib.ListN.{length, replicate}
-use Rattle.hash.specs.Double.{maxMessage}
+use Rattle.hash.specs.ShaD.{maxMessage}
 use Rattle.hash.specs.Hasher.{absorb}
 use Rattle.hash.specs.declared.answer.Answer.the-variants.{Done, TooLong}
 use Rattle.hash.specs.declared.answer.Answer.{Answer}

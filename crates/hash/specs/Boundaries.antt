@@ -7,7 +7,7 @@ use lib.ListN.{length, take, drop, replicate}
 use Rattle.hash.specs.Padding.{padding}
 use Rattle.hash.specs.Sha256.{sha256}
 use Rattle.hash.specs.Hasher.{absorb, finish}
-use Rattle.hash.specs.Double.{maxMessage, maxDMessage, maxPoolLength, D}
+use Rattle.hash.specs.ShaD.{maxMessage, maxDMessage, maxPoolLength, D}
 use Rattle.hash.specs.Answers.{lengthNumber}
 use Rattle.hash.specs.declared.hasher.Hasher.{Hasher}
 
@@ -48,8 +48,8 @@ abbrev pub MessageLimitRow : Type 0
 MessageLimitRow =
     map (lengthNumber maxMessage) (0 ∷ (2 ^ 61 - 1) ∷ (2 ^ 61) ∷ []) ≡ 0 ∷ 0 ∷ 17 ∷ []
 
-abbrev pub DoubleLimitRow : Type 0
-DoubleLimitRow =
+abbrev pub ShaDLimitRow : Type 0
+ShaDLimitRow =
     map (lengthNumber maxDMessage) (0 ∷ (2 ^ 61 - 1) ∷ (2 ^ 61) ∷ []) ≡ 0 ∷ 0 ∷ 17 ∷ []
 
 abbrev pub PoolLimitRow : Type 0
@@ -70,8 +70,8 @@ EdgesRow =
     []
 
 -- the first four bytes of D of 'abc'
-abbrev pub DoubleRow : Type 0
-DoubleRow =
+abbrev pub ShaDRow : Type 0
+ShaDRow =
     take 4 (D (0x61 ∷ 0x62 ∷ 0x63 ∷ [])) ≡ 0x4f ∷ 0x8b ∷ 0x42 ∷ 0xc2 ∷ []
 
 -- a state that was passed in, finished: what stands after its tail does not matter, its chain and its length do
@@ -94,11 +94,11 @@ pub record Boundaries : Type 0 where
   pub paddings : PaddingsRow
   pub lengths : LengthsRow
   pub messageLimit : MessageLimitRow
-  pub doubleLimit : DoubleLimitRow
+  pub shaDLimit : ShaDLimitRow
   pub poolLimit : PoolLimitRow
   pub standard : StandardRow
   pub edges : EdgesRow
-  pub double : DoubleRow
+  pub shaD : ShaDRow
   pub finishes : FinishesRow
   pub absorbs : AbsorbsRow
   pub longest : LongestRow

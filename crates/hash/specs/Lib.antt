@@ -4,7 +4,7 @@ pub mod Padding
 pub mod Block
 pub mod Sha256
 pub mod Hasher
-pub mod Double
+pub mod ShaD
 pub mod Answers
 pub mod Statements
 pub mod Boundaries

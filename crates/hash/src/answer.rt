@@ -3,7 +3,7 @@ ghost use mathlib.Core.Path.{_≡_};
 ghost use Prim.Native.Nat.{_+_};
 ghost use lib.Dec.{ltb};
 ghost use lib.ListN.{replicate};
-ghost use Rattle.hash.specs.Double.{maxDMessage, maxPoolLength};
+ghost use Rattle.hash.specs.ShaD.{maxDMessage, maxPoolLength};
 ghost use Rattle.hash.specs.Answers.{number};
 
 pub enum Answer {

@@ -13,7 +13,7 @@ ghost use mathlib.Core.List.{_++_};
 ghost use Prim.Native.Nat.{_+_, _≤_};
 ghost use lib.ListN.{length};
 ghost use Rattle.hash.specs.Sha256.{sha256};
-ghost use Rattle.hash.specs.Double.{maxMessage, maxDMessage, D, poolDigest};
+ghost use Rattle.hash.specs.ShaD.{maxMessage, maxDMessage, D, poolDigest};
 ghost use Rattle.hash.specs.Answers.{number, lengthNumber, digestWithin};
 
 // SHA-256 of data within the limit.
@@ -33,7 +33,7 @@ pub(crate) fn pool_digest_of(r: Hasher) -> [u8; 32]
 }
 
 // D of a and b joined, within the limit. Neither is copied.
-fn double_of(a: &[u8], b: &[u8]) -> [u8; 32]
+fn sha_d256_of(a: &[u8], b: &[u8]) -> [u8; 32]
     requires { ⌜ length (now a) + length (now b) ≤ maxDMessage ⌝ }
     ensures { λ r. ⌜ r ≡ D (now (a .entry) ++ now (b .entry)) ⌝ }
 {
@@ -52,18 +52,18 @@ pub fn sha256(data: &[u8]) -> Hashed
 }
 
 // D of data: SHA-256 of its SHA-256.
-pub fn double_sha256(data: &[u8]) -> Hashed
+pub fn sha_d256(data: &[u8]) -> Hashed
     ensures { λ r. ⌜ (number (r .answer) ≡ lengthNumber maxDMessage (length (now («data» .entry)))) × (r .digest ≡ digestWithin maxDMessage (length (now («data» .entry))) (D (now («data» .entry)))) ⌝ }
 {
-    double_sha256_joined(data, b"")
+    sha_d256_joined(data, b"")
 }
 
 // D of a and b joined, with no copy of either.
-pub fn double_sha256_joined(a: &[u8], b: &[u8]) -> Hashed
+pub fn sha_d256_joined(a: &[u8], b: &[u8]) -> Hashed
     ensures { λ r. ⌜ (number (r .answer) ≡ lengthNumber maxDMessage (length (now (a .entry)) + length (now (b .entry)))) × (r .digest ≡ digestWithin maxDMessage (length (now (a .entry)) + length (now (b .entry))) (D (now (a .entry) ++ now (b .entry)))) ⌝ }
 {
     if too_long(MAX_D_MESSAGE, a.len() as u64, b.len() as u64) {
         return refused();
     }
-    accepted(double_of(a, b))
+    accepted(sha_d256_of(a, b))
 }

@@ -18,7 +18,7 @@ ghost use lib.ListN.{length};
 ghost use Rattle.hash.specs.Constants.{K};
 ghost use Rattle.hash.specs.Sha256.{blocks};
 ghost use Rattle.hash.specs.Hasher.{emptyHasher, absorbFrom, absorb, finish};
-ghost use Rattle.hash.specs.Double.{maxMessage, maxPoolLength, emptyPool, poolDigest};
+ghost use Rattle.hash.specs.ShaD.{maxMessage, maxPoolLength, emptyPool, poolDigest};
 ghost use Rattle.hash.specs.Answers.{number, lengthNumber, digestWithin, absorbed};
 
 // The hash value over the whole blocks so far, the bytes after them with zeros behind, and the count of all bytes.

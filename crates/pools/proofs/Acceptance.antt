@@ -12,7 +12,7 @@ use borrow.Author.Tests.{ltb-false, le-ltb, eqb-true, eqb-false}
 use Rattle.laws.specs.Refusals.{refuse}
 use Rattle.laws.proofs.Cases.{by-test, cond-cong}
 use Rattle.laws.proofs.Refusals.{passed}
-use Rattle.hash.specs.Double.{maxPoolLength}
+use Rattle.hash.specs.ShaD.{maxPoolLength}
 use Rattle.generator.specs.Counter.{maxCounter}
 use Rattle.generator.specs.Steps.{blockCount}
 use Rattle.generator.specs.Refusals.{maxRequest}

@@ -17,7 +17,7 @@ use Rattle.laws.proofs.Cases.{by-test}
 use Rattle.laws.proofs.Copy.{overwrite-cut}
 use Rattle.laws.proofs.Lists.{set-tabulate, joined-append, joined-one}
 use Rattle.laws.proofs.Tabulate.{length-tabulate, getD-tabulate, tabulate-ext}
-use Rattle.hash.specs.Double.{emptyPool, poolDigest}
+use Rattle.hash.specs.ShaD.{emptyPool, poolDigest}
 use Rattle.hash.specs.declared.hasher.Hasher.{Hasher}
 use Rattle.hash.proofs.Laws.{length-pool-digest}
 use Rattle.pools.specs.Events.{poolCount}

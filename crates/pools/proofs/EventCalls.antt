@@ -11,7 +11,7 @@ use lib.ListN.{length, set}
 use lib.Seq.{set-getD, getD-set-same}
 use borrow.Author.Tests.{eqb-true}
 use Rattle.hash.specs.Hasher.{absorb}
-use Rattle.hash.specs.Double.{maxPoolLength}
+use Rattle.hash.specs.ShaD.{maxPoolLength}
 use Rattle.hash.specs.declared.hasher.Hasher.{Hasher}
 use Rattle.pools.specs.Events.{maxSource, poolCount, maxData, eventBytes, gain}
 use Rattle.pools.specs.State.{poolAt, malformed}

@@ -9,7 +9,7 @@ use lib.Seq.{take-at}
 use Rattle.laws.specs.Lists.{overwrite}
 use Rattle.laws.proofs.Copy.{overwrite-fits}
 use Rattle.hash.specs.Hasher.{absorb}
-use Rattle.hash.specs.Double.{maxMessage, maxPoolLength}
+use Rattle.hash.specs.ShaD.{maxMessage, maxPoolLength}
 use Rattle.hash.specs.Answers.{absorbed}
 use Rattle.hash.specs.declared.hasher.Hasher.{Hasher}
 use Rattle.hash.proofs.Laws.{absorbed-within, pool-length-fits}

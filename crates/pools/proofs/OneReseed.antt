@@ -9,7 +9,7 @@ use lib.Dec.{lit<}
 use lib.ListN.{length}
 use borrow.Author.Tests.{eq-eqb}
 use Rattle.laws.proofs.Tabulate.{getD-tabulate}
-use Rattle.hash.specs.Double.{emptyPool}
+use Rattle.hash.specs.ShaD.{emptyPool}
 use Rattle.hash.proofs.Laws.{pool-empty-length}
 use Rattle.pools.specs.Events.{poolCount}
 use Rattle.pools.specs.Schedule.{used, isDue}

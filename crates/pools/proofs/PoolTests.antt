@@ -9,7 +9,7 @@ use native.Mathlib.Omega.{arith}
 use lib.ListN.{length}
 use borrow.Author.Tests.{ltb-false}
 use Rattle.laws.specs.Lists.{tabulate}
-use Rattle.hash.specs.Double.{maxPoolLength, poolDigest}
+use Rattle.hash.specs.ShaD.{maxPoolLength, poolDigest}
 use Rattle.hash.specs.Answers.{digestWithin}
 use Rattle.hash.specs.declared.hasher.Hasher.{Hasher}
 use Rattle.hash.proofs.Laws.{digest-within}

@@ -12,7 +12,7 @@ use borrow.Author.Tests.{le-ltb, ne-eqb}
 use Rattle.laws.proofs.Cases.{split}
 use Rattle.laws.proofs.Lists.{allZero-replicate, sameList-refl}
 use Rattle.laws.proofs.Tabulate.{length-tabulate}
-use Rattle.hash.specs.Double.{maxPoolLength, emptyPool}
+use Rattle.hash.specs.ShaD.{maxPoolLength, emptyPool}
 use Rattle.hash.specs.declared.hasher.Hasher.{Hasher}
 use Rattle.hash.proofs.Laws.{pool-empty, pool-empty-length, pool-zeros}
 use Rattle.generator.specs.Counter.{maxCounter}

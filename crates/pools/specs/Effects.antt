@@ -6,7 +6,7 @@ use Prim.Native.Nat.{ℕ, _+_, _%_, _^_}
 use lib.ListN.{length, set}
 use Rattle.laws.specs.Lists.{tabulate, joined}
 use Rattle.hash.specs.Hasher.{absorb}
-use Rattle.hash.specs.Double.{emptyPool, poolDigest}
+use Rattle.hash.specs.ShaD.{emptyPool, poolDigest}
 use Rattle.hash.specs.declared.hasher.Hasher.{Hasher}
 use Rattle.generator.specs.Steps.{GeneratorState, decode, encode, reseed, pseudoRandomData}
 use Rattle.pools.specs.Events.{poolCount}

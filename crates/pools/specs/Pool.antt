@@ -5,7 +5,7 @@ use Prim.Native.Nat.{ℕ, _+_, _%_}
 use lib.Dec.{ltb}
 use lib.ListN.{drop}
 use Rattle.laws.specs.Lists.{allZero, sameList}
-use Rattle.hash.specs.Double.{maxPoolLength, emptyPool}
+use Rattle.hash.specs.ShaD.{maxPoolLength, emptyPool}
 use Rattle.hash.specs.declared.hasher.Hasher.{Hasher}
 
 -- 21: the length is above the limit

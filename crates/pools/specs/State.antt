@@ -5,7 +5,7 @@ use mathlib.Core.List.{List, [], _∷_}
 use Prim.Native.Nat.{ℕ}
 use lib.Dec.{eqb}
 use lib.ListN.{getD, replicate}
-use Rattle.hash.specs.Double.{emptyPool}
+use Rattle.hash.specs.ShaD.{emptyPool}
 use Rattle.hash.specs.declared.hasher.Hasher.{Hasher}
 use Rattle.generator.specs.Steps.{GeneratorState, decode}
 use Rattle.generator.specs.Refusals as Generator

@@ -4,7 +4,7 @@ use laws::overwrite;
 ghost use mathlib.Core.Path.{_≡_};
 ghost use Prim.Native.Nat.{_+_, _≤_};
 ghost use lib.ListN.{length};
-ghost use Rattle.hash.specs.Double.{maxPoolLength};
+ghost use Rattle.hash.specs.ShaD.{maxPoolLength};
 ghost use Rattle.hash.specs.Hasher.{absorb};
 ghost use Rattle.pools.specs.Events.{maxSource, maxData, eventBytes, gain};
 

@@ -11,7 +11,7 @@ use borrow.Author.Tests.{ltb-true, ltb-false, eqb-true}
 use Rattle.laws.specs.Refusals.{guarded}
 use Rattle.laws.proofs.Cases.{by-test, cond-cong}
 use Rattle.laws.proofs.Lists.{replicate-tabulate}
-use Rattle.hash.specs.Double.{emptyPool, poolOf}
+use Rattle.hash.specs.ShaD.{emptyPool, poolOf}
 use Rattle.hash.proofs.Laws.{pool-empty}
 use Rattle.generator.specs.Steps.{initial, encode}
 use Rattle.generator.specs.Operations as Operations

@@ -4,7 +4,7 @@ use Rattle.laws.specs.Lists.{tabulate, allZero, sameList}
 use Rattle.hash.specs.Constants.{H⁰}
 use Rattle.hash.specs.Hasher.{zeroFilled, emptyHasher, absorbFrom, absorb}
 use Rattle.hash.specs.Sha256.{blocks}
-use Rattle.hash.specs.Double.{maxMessage, maxDMessage, maxPoolLength, emptyPool}
+use Rattle.hash.specs.ShaD.{maxMessage, maxDMessage, maxPoolLength, emptyPool}
 use Rattle.generator.specs.Counter.{value, littleEndian, maxCounter}
 use Rattle.generator.specs.Steps.{decode, encode, initial, reseed, blockCount}
 use Rattle.generator.specs.Refusals as Generator

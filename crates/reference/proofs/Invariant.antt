@@ -11,7 +11,7 @@ use borrow.Author.Tests.{eqb-true}
 use Rattle.laws.specs.Lists.{joined, allZero}
 use Rattle.laws.proofs.Cases.{by-test}
 use Rattle.laws.proofs.Lists.{joined-append, joined-one, allZero-replicate}
-use Rattle.hash.specs.Double.{maxPoolLength}
+use Rattle.hash.specs.ShaD.{maxPoolLength}
 use Rattle.generator.specs.Counter.{maxCounter}
 use Rattle.generator.specs.Steps.{GeneratorState, initial, reseed}
 use Rattle.pools.specs.Schedule.{used, usedPools}

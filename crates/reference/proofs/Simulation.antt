@@ -16,7 +16,7 @@ use Rattle.laws.proofs.Cases.{split}
 use Rattle.laws.proofs.Tabulate.{tabulate-ext}
 use Rattle.laws.proofs.Lists.{set-tabulate}
 use Rattle.hash.specs.Hasher.{absorb}
-use Rattle.hash.specs.Double.{D, emptyPool, poolOf, poolDigest}
+use Rattle.hash.specs.ShaD.{D, emptyPool, poolOf, poolDigest}
 use Rattle.hash.specs.declared.hasher.Hasher.{Hasher}
 use Rattle.hash.proofs.Laws.{pool-empty, absorb-pool, pool-digest-is}
 use Rattle.generator.specs.Steps.{GeneratorState, Generated, decode, encode, reseed, pseudoRandomData}

@@ -10,7 +10,7 @@ use lib.Dec.{eqb, eqb·suc-zero}
 use Rattle.laws.specs.Lists.{joined}
 use Rattle.laws.proofs.Cases.{split}
 use Rattle.laws.proofs.Lists.{joined-map}
-use Rattle.hash.specs.Double.{D, poolOf, poolDigest}
+use Rattle.hash.specs.ShaD.{D, poolOf, poolDigest}
 use Rattle.hash.proofs.Laws.{pool-digest-is}
 use Rattle.pools.specs.declared.Fortuna.{Fortuna}
 use Rattle.pools.specs.Events.{poolCount, eventBytes}

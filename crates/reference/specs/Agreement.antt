@@ -5,7 +5,7 @@ use mathlib.Core.List.{List, [], _∷_, _++_, map}
 use Prim.Native.Nat.{_%_, _^_, min}
 use lib.Dec.{ltb}
 use Rattle.laws.specs.Lists.{tabulate}
-use Rattle.hash.specs.Double.{poolOf}
+use Rattle.hash.specs.ShaD.{poolOf}
 use Rattle.generator.specs.Steps.{encode}
 use Rattle.pools.specs.declared.Fortuna.{Fortuna}
 use Rattle.pools.specs.Events.{poolCount}

@@ -8,7 +8,7 @@ use mathlib.Core.List.{List, [], _∷_, _++_, map}
 use Prim.Native.Nat.{ℕ, _+_, _-_, _^_}
 use lib.ListN.{length, getD, take, replicate, set}
 use Rattle.laws.specs.Lists.{tabulate}
-use Rattle.hash.specs.Double.{D, emptyPool}
+use Rattle.hash.specs.ShaD.{D, emptyPool}
 use Rattle.hash.specs.declared.hasher.Hasher.{Hasher}
 use Rattle.generator.specs.Steps.{GeneratorState, encode, reseed, pseudoRandomData}
 use Rattle.pools.specs.declared.Fortuna.{Fortuna}

@@ -9,7 +9,7 @@ use Prim.Native.Nat.{ℕ, zero, suc, _+_, _*_, _/_, _^_, _≤_, _<_}
 use lib.Dec.{ltb, eqb}
 use lib.ListN.{length}
 use Rattle.laws.specs.Lists.{joined}
-use Rattle.hash.specs.Double.{D, poolOf}
+use Rattle.hash.specs.ShaD.{D, poolOf}
 use Rattle.generator.specs.Steps.{GeneratorState, decode, encode, reseed, pseudoRandomData}
 use Rattle.generator.specs.declared.Generator.{Generator}
 use Rattle.pools.specs.declared.Fortuna.{Fortuna}

@@ -6,7 +6,7 @@ use mathlib.Core.List.{List, [], _∷_, _++_, map}
 use Prim.Native.Nat.{ℕ, _+_, _-_, _^_}
 use lib.ListN.{length, take, replicate}
 use Rattle.laws.specs.Lists.{tabulate}
-use Rattle.hash.specs.Double.{emptyPool}
+use Rattle.hash.specs.ShaD.{emptyPool}
 use Rattle.hash.specs.declared.hasher.Hasher.{Hasher}
 use Rattle.generator.specs.Steps.{initial, encode}
 use Rattle.pools.specs.declared.Fortuna.{Fortuna}

@@ -10,7 +10,7 @@ use Prim.Native.Nat.{ℕ, _+_, _-_, _*_, _/_, _%_, _^_}
 use lib.Dec.{eqb, leb, ltb}
 use lib.ListN.{length}
 use Rattle.laws.specs.Lists.{joined}
-use Rattle.hash.specs.Double.{D}
+use Rattle.hash.specs.ShaD.{D}
 use Rattle.generator.specs.Steps.{GeneratorState, initial, reseed}
 use Rattle.generator.specs.Closed.{closedRandomData}
 use Rattle.pools.specs.Events.{eventBytes}

@@ -58,8 +58,8 @@ pub(crate) fn set(call: u8, data: &[u8], state: Hasher) -> Hasher {
 fn hashed(call: u8, data: &[u8], state: Hasher) -> Hashed {
     match call {
         b's' => hash::sha256(data),
-        b'd' => hash::double_sha256(data),
-        b'j' => hash::double_sha256_joined(front(data, 32), after(data, 32)),
+        b'd' => hash::sha_d256(data),
+        b'j' => hash::sha_d256_joined(front(data, 32), after(data, 32)),
         b'f' | b'F' => state.finish(),
         _ => state.pool_digest(),
     }

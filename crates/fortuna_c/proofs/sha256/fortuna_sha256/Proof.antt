@@ -4,7 +4,7 @@ use mathlib.Core.Path.{_∙_}
 use lib.ListN.{length}
 use borrow.Author.Needs.{needs}
 use Rattle.hash.specs.Sha256.{sha256}
-use Rattle.hash.specs.Double.{maxMessage}
+use Rattle.hash.specs.ShaD.{maxMessage}
 use Rattle.fortuna_c.proofs.Buffers.{stored}
 use Rattle.fortuna_c.proofs.sha256.fortuna_sha256.Statement.{statement}
 use Rattle.fortuna_c.proofs.sha256.fortuna_sha256.Tie as tie

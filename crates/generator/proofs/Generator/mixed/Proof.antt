@@ -3,7 +3,7 @@
 use mathlib.Core.Path.{_≡_, _∙_}
 use Prim.Native.Nat.{_+_, _≤_}
 use lib.ListN.{length}
-use Rattle.hash.specs.Double.{maxDMessage}
+use Rattle.hash.specs.ShaD.{maxDMessage}
 use Rattle.hash.proofs.Laws.{digest-within}
 use Rattle.generator.specs.Steps.{encode, decode, reseed}
 use Rattle.generator.proofs.Seeds.{joined-fits}
@@ -14,11 +14,11 @@ use Rattle.generator.proofs.Generator.mixed.Tie as tie
 key-long : (c : tie.Start) → length (c .args .self .key) ≡ 32
 key-long c = search needs
 
-slice-aggregate-double-sha256-joined : tie.Need-slice-aggregate-double-sha256-joined
-slice-aggregate-double-sha256-joined c = search needs
+slice-aggregate-sha-d256-joined : tie.Need-slice-aggregate-sha-d256-joined
+slice-aggregate-sha-d256-joined c = search needs
 
-double-sha256-joined-requires : tie.Need-double-sha256-joined-requires
-double-sha256-joined-requires c κs = search needs
+sha-d256-joined-requires : tie.Need-sha-d256-joined-requires
+sha-d256-joined-requires c κs = search needs
 
 increment-requires : tie.Need-increment-requires
 increment-requires c κs = search needs
@@ -28,7 +28,7 @@ unfolding encode reseed decode
 returns c =
     let a = c .before .before .before .before .before .before .before .args in
     let key : length (a .self .key) ≡ 32 = key-long (c .before .before .before .before .before .before .before) in
-    let d = c .before .before .double-sha256-joined .ensures .1 in
+    let d = c .before .before .sha-d256-joined .ensures .1 in
     let fits : length (a .self .key) + length (a .seed .now) ≤ maxDMessage = rw key (joined-fits _ (c .before .before .before .before .before .before .before .pre)) in
     let digest = d ∙ digest-within _ _ _ fits in
     λ i. record { key = digest i; counter = c .increment .ensures i }
@@ -37,7 +37,7 @@ pub mixed-spec : {M : Type 1} → statement M
 mixed-spec =
     tie.close
     (tie.spec
-    slice-aggregate-double-sha256-joined
-    double-sha256-joined-requires
+    slice-aggregate-sha-d256-joined
+    sha-d256-joined-requires
     increment-requires
     returns)

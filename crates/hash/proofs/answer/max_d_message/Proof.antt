@@ -1,7 +1,7 @@
 -- `hash::answer::max_d_message` meets its contract.
 -- Assumes nothing.
 use mathlib.Core.Path.{refl}
-use Rattle.hash.specs.Double.{maxMessage, maxDMessage}
+use Rattle.hash.specs.ShaD.{maxMessage, maxDMessage}
 use Rattle.hash.proofs.answer.max_d_message.Statement.{statement}
 use Rattle.hash.proofs.answer.max_d_message.Tie as tie
 

@@ -1,7 +1,7 @@
 -- `hash::answer::max_pool_length` meets its contract.
 -- Assumes nothing.
 use mathlib.Core.Path.{refl}
-use Rattle.hash.specs.Double.{maxMessage, maxDMessage, maxPoolLength}
+use Rattle.hash.specs.ShaD.{maxMessage, maxDMessage, maxPoolLength}
 use Rattle.hash.proofs.answer.max_pool_length.Statement.{statement}
 use Rattle.hash.proofs.answer.max_pool_length.Tie as tie
 

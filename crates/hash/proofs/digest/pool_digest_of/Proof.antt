@@ -1,7 +1,7 @@
 -- `hash::digest::pool_digest_of` meets its contract.
 -- Assumes nothing.
 use mathlib.Core.Path.{_∙_}
-use Rattle.hash.specs.Double.{maxMessage, poolDigest}
+use Rattle.hash.specs.ShaD.{maxMessage, poolDigest}
 use borrow.Author.Needs.{needs}
 use Rattle.hash.proofs.digest.pool_digest_of.Statement.{statement}
 use Rattle.hash.proofs.digest.pool_digest_of.Tie as tie

@@ -6,7 +6,7 @@ use native.Mathlib.Nat.{add-zero}
 use lib.Dec.{ltb}
 use lib.ListN.{length}
 use borrow.Author.Tests.{ltb-false}
-use Rattle.hash.specs.Double.{maxMessage}
+use Rattle.hash.specs.ShaD.{maxMessage}
 use Rattle.hash.proofs.Answers.{hash-refused, hash-accepted}
 use borrow.Author.Needs.{needs}
 use Rattle.hash.proofs.digest.sha256.Statement.{statement}

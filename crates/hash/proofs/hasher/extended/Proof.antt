@@ -5,7 +5,7 @@ use Prim.Native.Nat.{_-_, _%_}
 use native.Mathlib.Omega.{arith}
 use lib.ListN as ListN
 use lib.Seq.{length-take-le}
-use Rattle.hash.specs.Double.{maxMessage}
+use Rattle.hash.specs.ShaD.{maxMessage}
 use Rattle.hash.proofs.Absorb.{absorb-short, absorb-whole, absorb-fill}
 use borrow.Author.Needs.{needs}
 use Rattle.hash.proofs.hasher.extended.Statement.{statement}

@@ -2,7 +2,7 @@
 -- Assumes nothing.
 use mathlib.Core.Path.{sym, _∙_}
 use borrow.Author.Tests.{ltb-false}
-use Rattle.hash.specs.Double.{maxMessage}
+use Rattle.hash.specs.ShaD.{maxMessage}
 use Rattle.hash.specs.Answers.{number}
 use Rattle.hash.proofs.Answers.{number-refused, number-accepted, next-refused, next-accepted}
 use borrow.Author.Needs.{needs}

@@ -1,6 +1,6 @@
 -- `hash::hasher::Hasher::empty_pool` meets its contract.
 -- Assumes nothing.
-use Rattle.hash.specs.Double.{emptyPool}
+use Rattle.hash.specs.ShaD.{emptyPool}
 use borrow.Author.Needs.{needs}
 use Rattle.hash.proofs.hasher.Hasher.empty_pool.Statement.{statement}
 use Rattle.hash.proofs.hasher.Hasher.empty_pool.Tie as tie

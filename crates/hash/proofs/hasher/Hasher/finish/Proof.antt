@@ -2,7 +2,7 @@
 -- Assumes nothing.
 use mathlib.Core.Path.{_∙_}
 use native.Mathlib.Nat.{add-zero}
-use Rattle.hash.specs.Double.{maxMessage}
+use Rattle.hash.specs.ShaD.{maxMessage}
 use Rattle.hash.proofs.Answers.{hash-refused, hash-accepted}
 use borrow.Author.Needs.{needs}
 use Rattle.hash.proofs.hasher.Hasher.finish.Statement.{statement}

@@ -1,14 +1,14 @@
--- `hash::digest::double_of` meets its contract.
+-- `hash::digest::sha_d256_of` meets its contract.
 -- Assumes nothing.
 use mathlib.Core.Path.{_∙_}
 use native.Mathlib.Nat.{zero-add}
 use native.Mathlib.Omega.{arith}
 use Rattle.hash.proofs.Laws.{absorb-length, pool-empty-length, pool-digest-joined, d-message-fits}
 use borrow.Author.Needs.{needs}
-use Rattle.hash.proofs.digest.double_of.Statement.{statement}
-use Rattle.hash.proofs.digest.double_of.Tie as tie
+use Rattle.hash.proofs.digest.sha_d256_of.Statement.{statement}
+use Rattle.hash.proofs.digest.sha_d256_of.Tie as tie
 
--- `hash::digest::double_of` meets its contract.
+-- `hash::digest::sha_d256_of` meets its contract.
 -- Assumes nothing.
 
 empty-pool-requires : tie.Need-empty-pool-requires
@@ -31,8 +31,8 @@ returns c =
     c .pool-digest-of .ensures
     ∙ rw (c .before .extended2 .ensures, c .before .before .extended .ensures, c .before .before .before .empty-pool .ensures) (pool-digest-joined _ _)
 
-pub double-of-spec : {M : Type 1} → statement M
-double-of-spec =
+pub sha-d256-of-spec : {M : Type 1} → statement M
+sha-d256-of-spec =
     tie.close
     (tie.spec
     empty-pool-requires
