@@ -47,9 +47,9 @@ RequestSizesRow = map (requestNumber (keyed 1)) (0 ∷ 1048576 ∷ 1048577 ∷ [
 abbrev pub BlocksSizesRow : Type 0
 BlocksSizesRow = map (blocksNumber (keyed 1)) (0 ∷ 1048576 ∷ 1048577 ∷ []) ≡ 0 ∷ 0 ∷ 14 ∷ []
 
--- 17: a seed above 2 ^ 61 - 33 bytes
+-- 17: a seed above 2 ^ 61 - 97 bytes
 abbrev pub SeedSizesRow : Type 0
-SeedSizesRow = map (reseedNumber (keyed 1)) (0 ∷ (2 ^ 61 - 33) ∷ (2 ^ 61 - 32) ∷ []) ≡ 0 ∷ 0 ∷ 17 ∷ []
+SeedSizesRow = map (reseedNumber (keyed 1)) (0 ∷ (2 ^ 61 - 97) ∷ (2 ^ 61 - 96) ∷ []) ≡ 0 ∷ 0 ∷ 17 ∷ []
 
 -- 24: a reseed takes 1, one block 1, no block none, a request of no bytes 2
 abbrev pub ReseedRoomRow : Type 0
@@ -81,8 +81,8 @@ FreshRow =
 -- the order: 14 and 17 before 21, 21 before 23 (above), 23 before 24 (C = 0 has room)
 abbrev pub OrderRow : Type 0
 OrderRow =
-    requestNumber (keyed 0) 1048577 ∷ blocksNumber (keyed 0) 1048577 ∷ reseedNumber (keyed 0) (2 ^ 61 - 32)
-    ∷ requestNumber initial 1048577 ∷ requestNumber (keyed (2 ^ 128 - 1)) 1048577 ∷ reseedNumber (keyed (2 ^ 128 - 1)) (2 ^ 61 - 32) ∷ []
+    requestNumber (keyed 0) 1048577 ∷ blocksNumber (keyed 0) 1048577 ∷ reseedNumber (keyed 0) (2 ^ 61 - 96)
+    ∷ requestNumber initial 1048577 ∷ requestNumber (keyed (2 ^ 128 - 1)) 1048577 ∷ reseedNumber (keyed (2 ^ 128 - 1)) (2 ^ 61 - 96) ∷ []
     ≡ 14 ∷ 14 ∷ 17 ∷ 14 ∷ 14 ∷ 17 ∷ []
 
 -- the rows together

@@ -31,7 +31,7 @@ blocks-next h b m e =
     ap (λ (k : ℕ). blocks k h (b ++ m)) n
     ∙ ap₂ (λ (x y : List ℕ). blocks (length m / 64) (compress h x) y) (take-at b m 64 e) (drop-at b m 64 e)
 
-after-next : (h b m : List ℕ) (k : ℕ) → length b ≡ 64 → absorbFrom h (b ++ m) k ≡ absorbFrom (compress h b) m k
+pub after-next : (h b m : List ℕ) (k : ℕ) → length b ≡ 64 → absorbFrom h (b ++ m) k ≡ absorbFrom (compress h b) m k
 unfolding absorbFrom
 after-next h b m k e =
     let n : length (b ++ m) / 64 * 64 ≡ 64 + length m / 64 * 64 = rw length-append (omega arith) in

@@ -7,9 +7,9 @@ use Rattle.hash.specs.Padding.{zeroBytes, padding}
 use Rattle.hash.specs.Block.{nextWord, schedule, T₁, T₂, round, rounds, compress}
 use Rattle.hash.specs.Sha256.{blocks, digestFrom, sha256}
 use Rattle.hash.specs.Hasher.{zeroFilled, absorbFrom, absorb, finish}
-use Rattle.hash.specs.ShaD.{maxMessage, maxDMessage, maxPoolLength, D}
+use Rattle.hash.specs.ShaD.{zeroBlock, D, maxMessage, maxDMessage, maxPoolLength, withZeroBlock, poolDigest}
 use Rattle.hash.specs.Answers.{lengthNumber}
-use Rattle.hash.specs.Boundaries.{messages, digests, passed, PaddingsRow, LengthsRow, MessageLimitRow, ShaDLimitRow, PoolLimitRow, StandardRow, EdgesRow, ShaDRow, FinishesRow, AbsorbsRow, LongestRow, Boundaries}
+use Rattle.hash.specs.Boundaries.{messages, digests, passed, PaddingsRow, LengthsRow, MessageLimitRow, ShaDLimitRow, PoolLimitRow, StandardRow, EdgesRow, ShaDRow, FinishesRow, PoolDigestsRow, AbsorbsRow, LongestRow, Boundaries}
 
 -- what a digest computes with, named once: whatever unfolds it unfolds all that its own line names
 digesting : Unit {0}
@@ -45,12 +45,16 @@ unfolding digesting
 edges = refl
 
 sha-d : ShaDRow
-unfolding digesting D
+unfolding digesting messages zeroBlock D
 sha-d = refl
 
 finishes : FinishesRow
 unfolding digesting finish passed
 finishes = refl
+
+pool-digests : PoolDigestsRow
+unfolding digesting finish passed withZeroBlock poolDigest
+pool-digests = refl
 
 absorbs : AbsorbsRow
 unfolding digesting absorb absorbFrom zeroFilled passed
@@ -72,6 +76,7 @@ boundaries =
       edges = edges;
       shaD = sha-d;
       finishes = finishes;
+      poolDigests = pool-digests;
       absorbs = absorbs;
       longest = longest;
     }

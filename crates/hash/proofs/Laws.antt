@@ -2,8 +2,8 @@
 -- Assumes nothing.
 use mathlib.Core.Path.{_≡_, refl, sym, ap, _∙_}
 use mathlib.Core.List.{List, [], _++_}
-use Prim.Native.Nat.{ℕ, _+_, _-_, _*_, _/_, _%_, _≤_, _<_}
-use native.Mathlib.Nat.{div-eq-of-lt, le-trans}
+use Prim.Native.Nat.{ℕ, _+_, _-_, _*_, _/_, _%_, _^_, _≤_, _<_}
+use native.Mathlib.Nat.{div-eq-of-lt, le-trans, zero-add}
 use native.Mathlib.Omega.{arith}
 use lib.ListN.{length, drop, replicate, length-append, length-drop, length-replicate}
 use lib.Dec.{lit≤}
@@ -13,9 +13,11 @@ use Rattle.laws.proofs.Tabulate.{length-tabulate}
 use Rattle.hash.specs.Constants.{H⁰}
 use Rattle.hash.specs.Sha256.{blocks, digestFrom, sha256}
 use Rattle.hash.specs.Hasher.{zeroFilled, emptyHasher, hasherOf, absorbFrom, absorb, finish}
-use Rattle.hash.specs.ShaD.{maxMessage, maxDMessage, maxPoolLength, D, emptyPool, poolOf, poolDigest}
+use Rattle.hash.specs.ShaD.{zeroBlock, D, maxMessage, maxDMessage, maxPoolLength, emptyPool, poolOf, withZeroBlock, poolDigest}
 use Rattle.hash.specs.Answers.{lengthNumber, digestWithin, absorbed}
+use Rattle.hash.specs.Statements.{PoolGivesD}
 use Rattle.hash.specs.declared.hasher.Hasher.{Hasher}
+use Rattle.hash.proofs.ZeroBlock.{zero-block-hash}
 use Rattle.hash.proofs.Absorb as Absorb
 
 -- ---- lengths
@@ -30,11 +32,11 @@ length-sha256 m = length-digest H⁰ _
 
 pub length-D : (m : List ℕ) → length (D m) ≡ 32
 unfolding D
-length-D m = length-sha256 (sha256 m)
+length-D m = length-sha256 (sha256 (zeroBlock ++ m))
 
 pub length-pool-digest : (r : Hasher) → length (poolDigest r) ≡ 32
 unfolding poolDigest
-length-pool-digest r = length-sha256 (finish r)
+length-pool-digest r = length-sha256 (finish (withZeroBlock r))
 
 -- ---- absorbing
 
@@ -67,69 +69,84 @@ absorb-hasher m d = rw (← absorb-empty m, ← absorb-empty (m ++ d)) (absorb-a
 pub finish-hasher : (m : List ℕ) → finish (hasherOf m) ≡ sha256 m
 finish-hasher m = rw (← absorb-empty m) (Absorb.finish-empty m)
 
-hasher-length : (m : List ℕ) → hasherOf m .length ≡ length m
-unfolding hasherOf absorbFrom
-hasher-length m = refl
+-- ---- what the bytes m leave, from the hash value h
 
 rest-length : (m : List ℕ) → length (drop (length m / 64 * 64) m) ≡ length m % 64
 rest-length m = rw length-drop (omega arith)
 
-hasher-tail : (m : List ℕ) → length (hasherOf m .tail) ≡ 64
-unfolding hasherOf absorbFrom zeroFilled
-hasher-tail m = rw (length-append, length-replicate, rest-length m) (omega arith)
+module _ (h m : List ℕ) where
+  left-tail : length (absorbFrom h m (length m) .tail) ≡ 64
+  unfolding absorbFrom zeroFilled
+  left-tail = rw (length-append, length-replicate, rest-length m) (omega arith)
 
-hasher-zeros : (m : List ℕ) → drop (length m % 64) (hasherOf m .tail) ≡ replicate (64 - length m % 64) 0
-unfolding hasherOf absorbFrom zeroFilled
-hasher-zeros m =
-    let t : List ℕ = drop (length m / 64 * 64) m in
-    rw (← rest-length m) (drop-at t (replicate (64 - length t) 0) (length t) refl)
+  left-zeros : drop (length m % 64) (absorbFrom h m (length m) .tail) ≡ replicate (64 - length m % 64) 0
+  unfolding absorbFrom zeroFilled
+  left-zeros =
+      let t : List ℕ = drop (length m / 64 * 64) m in
+      rw (← rest-length m) (drop-at t (replicate (64 - length t) 0) (length t) refl)
 
-hasher-short : (m : List ℕ) → length m < 64 → hasherOf m .chain ≡ emptyHasher .chain
-unfolding hasherOf absorbFrom emptyHasher blocks
-hasher-short m h =
-    let e : length m / 64 ≡ 0 = div-eq-of-lt h in
-    rw e
+  left-short : length m < 64 → absorbFrom h m (length m) .chain ≡ h
+  unfolding absorbFrom blocks
+  left-short l =
+      let e : length m / 64 ≡ 0 = div-eq-of-lt l in
+      rw e
 
 -- ---- a pool
 
-pub pool-empty : emptyPool ≡ poolOf []
-unfolding emptyPool poolOf
-pool-empty = empty-is ∙ sym (absorb-empty [])
+-- what the bytes m leave in a pool: the hash value goes on from the zero block's
+pool-is : (m : List ℕ) → poolOf m ≡ absorbFrom (emptyPool .chain) m (length m)
+unfolding poolOf absorb emptyPool
+pool-is m = rw zero-add
 
--- the same state as a hasher's, until D changes
-pool-is : (m : List ℕ) → poolOf m ≡ hasherOf m
-unfolding poolOf emptyPool
-pool-is m = absorb-empty m
+pub pool-empty : emptyPool ≡ poolOf []
+unfolding emptyPool absorbFrom blocks zeroFilled
+pool-empty = sym (pool-is [])
+
+empty-long : length (emptyPool .tail) ≡ 64
+unfolding emptyPool
+empty-long = refl
 
 pub absorb-pool : (m d : List ℕ) → absorb (poolOf m) d ≡ poolOf (m ++ d)
-absorb-pool m d = rw (pool-is m, pool-is (m ++ d)) (absorb-hasher m d)
+unfolding poolOf
+absorb-pool m d = absorb-append emptyPool m d empty-long
 
 absorb-pool′ : (m d : List ℕ) → absorb (absorb emptyPool m) d ≡ poolOf (m ++ d)
 unfolding poolOf
 absorb-pool′ m d = absorb-pool m d
 
-pub pool-digest-is : (m : List ℕ) → poolDigest (poolOf m) ≡ D m
+length-zero-block : length zeroBlock ≡ 64
+unfolding zeroBlock
+length-zero-block = refl
+
+-- with the zero block counted, a pool is the running hash of the zero block and its bytes
+zeros-counted : (m : List ℕ) → withZeroBlock (poolOf m) ≡ hasherOf (zeroBlock ++ m)
+unfolding withZeroBlock hasherOf emptyPool absorbFrom
+zeros-counted m =
+    let n : length m + 64 ≡ length (zeroBlock ++ m) = rw (length-append, length-zero-block) (omega arith) in
+    rw (pool-is m, n, zero-block-hash) (sym (Absorb.after-next H⁰ zeroBlock m (length (zeroBlock ++ m)) length-zero-block))
+
+pub pool-digest-is : (m : List ℕ) → PoolGivesD m
 unfolding poolDigest D
-pool-digest-is m = rw (pool-is m, finish-hasher m)
+pool-digest-is m = rw (zeros-counted m, finish-hasher (zeroBlock ++ m))
 
 pub pool-empty-length : emptyPool .length ≡ 0
-unfolding emptyPool emptyHasher
+unfolding emptyPool
 pool-empty-length = refl
 
 pub pool-length : (m : List ℕ) → poolOf m .length ≡ length m
-pool-length m = rw (pool-is m) (hasher-length m)
+unfolding absorbFrom
+pool-length m = rw (pool-is m)
 
 -- a pool's tail is 64 bytes, with zeros after the bytes that are not hashed yet
 pub pool-tail : (m : List ℕ) → length (poolOf m .tail) ≡ 64
-pool-tail m = rw (pool-is m) (hasher-tail m)
+pool-tail m = rw (pool-is m) (left-tail (emptyPool .chain) m)
 
 pub pool-zeros : (m : List ℕ) → drop (length m % 64) (poolOf m .tail) ≡ replicate (64 - length m % 64) 0
-pool-zeros m = rw (pool-is m) (hasher-zeros m)
+pool-zeros m = rw (pool-is m) (left-zeros (emptyPool .chain) m)
 
 -- below 64 bytes a pool's running hash is the empty pool's
 pub pool-short : (m : List ℕ) → length m < 64 → poolOf m .chain ≡ emptyPool .chain
-unfolding emptyPool
-pool-short m h = rw (pool-is m) (hasher-short m h)
+pool-short m h = rw (pool-is m) (left-short (emptyPool .chain) m h)
 
 -- D of a message that comes in two parts
 pub pool-digest-joined : (a b : List ℕ) → poolDigest (absorb (absorb emptyPool a) b) ≡ D (a ++ b)
@@ -140,12 +157,22 @@ pool-digest-joined a b = ap poolDigest (absorb-pool′ a b) ∙ pool-digest-is (
 -- a message that D takes is one that SHA-256 takes
 pub d-message-fits : (n : ℕ) → n ≤ maxDMessage → n ≤ maxMessage
 unfolding maxDMessage
-d-message-fits n h = h
+d-message-fits n h = omega arith
 
 -- and so is what a pool may hold
 pub pool-length-fits : (n : ℕ) → n ≤ maxPoolLength → n ≤ maxMessage
-unfolding maxPoolLength maxDMessage
-pool-length-fits n h = h
+unfolding maxPoolLength
+pool-length-fits n h = d-message-fits n h
+
+-- the zero block can be counted
+pub pool-length-room : (n : ℕ) → n ≤ maxPoolLength → n + 64 < 2 ^ 64
+unfolding maxPoolLength maxDMessage maxMessage
+pool-length-room n h = omega arith
+
+-- a pool may hold what D takes
+pub pool-holds : (n : ℕ) → n ≤ maxDMessage → n ≤ maxPoolLength
+unfolding maxPoolLength
+pool-holds n h = h
 
 -- D takes a key and the digests of all pools
 pub d-message-room : (n : ℕ) → n ≤ 1056 → n ≤ maxDMessage

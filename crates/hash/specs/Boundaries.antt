@@ -7,7 +7,7 @@ use lib.ListN.{length, take, drop, replicate}
 use Rattle.hash.specs.Padding.{padding}
 use Rattle.hash.specs.Sha256.{sha256}
 use Rattle.hash.specs.Hasher.{absorb, finish}
-use Rattle.hash.specs.ShaD.{maxMessage, maxDMessage, maxPoolLength, D}
+use Rattle.hash.specs.ShaD.{D, maxMessage, maxDMessage, maxPoolLength, poolDigest}
 use Rattle.hash.specs.Answers.{lengthNumber}
 use Rattle.hash.specs.declared.hasher.Hasher.{Hasher}
 
@@ -43,18 +43,18 @@ abbrev pub LengthsRow : Type 0
 LengthsRow =
     map (λ (n : ℕ). drop (length (padding n) - 8) (padding n)) (0x0001_0203_0405_0607 ∷ (2 ^ 61 - 1) ∷ []) ≡ (0 ∷ 8 ∷ 16 ∷ 24 ∷ 32 ∷ 40 ∷ 48 ∷ 56 ∷ []) ∷ (255 ∷ 255 ∷ 255 ∷ 255 ∷ 255 ∷ 255 ∷ 255 ∷ 248 ∷ []) ∷ []
 
--- 17 above 2 ^ 61 - 1 bytes: for a message, for D, for a pool
+-- 17 above 2 ^ 61 - 1 bytes for a message, above 2 ^ 61 - 65 for D and for a pool
 abbrev pub MessageLimitRow : Type 0
 MessageLimitRow =
     map (lengthNumber maxMessage) (0 ∷ (2 ^ 61 - 1) ∷ (2 ^ 61) ∷ []) ≡ 0 ∷ 0 ∷ 17 ∷ []
 
 abbrev pub ShaDLimitRow : Type 0
 ShaDLimitRow =
-    map (lengthNumber maxDMessage) (0 ∷ (2 ^ 61 - 1) ∷ (2 ^ 61) ∷ []) ≡ 0 ∷ 0 ∷ 17 ∷ []
+    map (lengthNumber maxDMessage) (0 ∷ (2 ^ 61 - 65) ∷ (2 ^ 61 - 64) ∷ []) ≡ 0 ∷ 0 ∷ 17 ∷ []
 
 abbrev pub PoolLimitRow : Type 0
 PoolLimitRow =
-    map (lengthNumber maxPoolLength) (0 ∷ (2 ^ 61 - 1) ∷ (2 ^ 61) ∷ []) ≡ 0 ∷ 0 ∷ 17 ∷ []
+    map (lengthNumber maxPoolLength) (0 ∷ (2 ^ 61 - 65) ∷ (2 ^ 61 - 64) ∷ []) ≡ 0 ∷ 0 ∷ 17 ∷ []
 
 -- the standard's messages
 abbrev pub StandardRow : Type 0
@@ -69,16 +69,25 @@ EdgesRow =
     (0xb3 ∷ 0x54 ∷ 0x39 ∷ 0xa4 ∷ []) ∷
     []
 
--- the first four bytes of D of 'abc'
+-- the first four bytes of D of the standard's messages
 abbrev pub ShaDRow : Type 0
 ShaDRow =
-    take 4 (D (0x61 ∷ 0x62 ∷ 0x63 ∷ [])) ≡ 0x4f ∷ 0x8b ∷ 0x42 ∷ 0xc2 ∷ []
+    map (λ (m : List ℕ). take 4 (D m)) messages ≡
+    (0xe2 ∷ 0xf6 ∷ 0x1c ∷ 0x3f ∷ []) ∷
+    (0x4f ∷ 0x16 ∷ 0xde ∷ 0xb3 ∷ []) ∷
+    []
 
 -- a state that was passed in, finished: what stands after its tail does not matter, its chain and its length do
 abbrev pub FinishesRow : Type 0
 FinishesRow =
     map (λ (r : Hasher). take 4 (finish r)) (passed (9 ∷ 8 ∷ 7 ∷ 6 ∷ 5 ∷ []) 69 ∷ passed (replicate 63 9) (2 ^ 61 - 1) ∷ []) ≡
     (0x61 ∷ 0xfc ∷ 0x69 ∷ 0x04 ∷ []) ∷ (0xe0 ∷ 0x49 ∷ 0xf5 ∷ 0x8a ∷ []) ∷ []
+
+-- as a pool's state it gives another digest: the zero block counts in the padding, and in nothing else
+abbrev pub PoolDigestsRow : Type 0
+PoolDigestsRow =
+    map (λ (r : Hasher). take 4 (poolDigest r)) (passed (9 ∷ 8 ∷ 7 ∷ 6 ∷ 5 ∷ []) 69 ∷ passed (replicate 63 9) (2 ^ 61 - 65) ∷ []) ≡
+    (0x6d ∷ 0x82 ∷ 0xc8 ∷ 0x33 ∷ []) ∷ (0x43 ∷ 0xc7 ∷ 0x89 ∷ 0xb0 ∷ []) ∷ []
 
 -- a byte absorbed takes the place after the tail, and the rest becomes zeros
 abbrev pub AbsorbsRow : Type 0
@@ -100,5 +109,6 @@ pub record Boundaries : Type 0 where
   pub edges : EdgesRow
   pub shaD : ShaDRow
   pub finishes : FinishesRow
+  pub poolDigests : PoolDigestsRow
   pub absorbs : AbsorbsRow
   pub longest : LongestRow

@@ -1,10 +1,14 @@
--- What FIPS 180-4, 5.1.1 says of the padding, in its own words and in bits, and that numbers tell answers apart.
+-- What FIPS 180-4, 5.1.1 says of the padding, in its own words and in bits; what a pool has to do with D; and that numbers
+-- tell answers apart.
 -- Assumes nothing.
 use mathlib.Core.Path.{_≡_}
 use mathlib.Core.List.{List, _++_}
 use Prim.Native.Nat.{ℕ, _+_, _*_, _%_, _≤_}
 use lib.ListN.{length}
 use Rattle.hash.specs.Padding.{zeroBytes, padding}
+use Rattle.hash.specs.Constants.{H⁰}
+use Rattle.hash.specs.Block.{compress}
+use Rattle.hash.specs.ShaD.{zeroBlock, D, zeroBlockHash, poolOf, poolDigest}
 use Rattle.hash.specs.Answers.{number}
 use Rattle.hash.specs.declared.answer.Answer.{Answer}
 
@@ -24,6 +28,14 @@ pub record PaddingLeast (n : ℕ) : Type 0 where
 -- a padded message is whole blocks
 abbrev pub PaddedWhole : List ℕ → Type 0
 PaddedWhole m = length (m ++ padding (length m)) % 64 ≡ 0
+
+-- the hash value that an empty pool starts from is SHA-256's after the zero block
+abbrev pub ZeroBlockHash : Type 0
+ZeroBlockHash = zeroBlockHash ≡ compress H⁰ zeroBlock
+
+-- a pool that holds the bytes m gives D of m
+abbrev pub PoolGivesD : List ℕ → Type 0
+PoolGivesD m = poolDigest (poolOf m) ≡ D m
 
 -- different answers have different numbers
 abbrev pub NumberInjective : Type 0

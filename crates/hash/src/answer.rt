@@ -20,7 +20,7 @@ pub struct Hashed {
 // The longest message to SHA-256, to D, and the longest pool, in bytes.
 pub(crate) const MAX_MESSAGE: u64 = 0x1fff_ffff_ffff_ffff;
 
-pub(crate) const MAX_D_MESSAGE: u64 = MAX_MESSAGE;
+pub(crate) const MAX_D_MESSAGE: u64 = MAX_MESSAGE - 64;
 
 pub(crate) const MAX_POOL_LENGTH: u64 = MAX_D_MESSAGE;
 

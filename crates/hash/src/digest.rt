@@ -13,7 +13,7 @@ ghost use mathlib.Core.List.{_++_};
 ghost use Prim.Native.Nat.{_+_, _≤_};
 ghost use lib.ListN.{length};
 ghost use Rattle.hash.specs.Sha256.{sha256};
-ghost use Rattle.hash.specs.ShaD.{maxMessage, maxDMessage, D, poolDigest};
+ghost use Rattle.hash.specs.ShaD.{maxMessage, maxDMessage, maxPoolLength, D, poolDigest};
 ghost use Rattle.hash.specs.Answers.{number, lengthNumber, digestWithin};
 
 // SHA-256 of data within the limit.
@@ -24,11 +24,14 @@ fn digest_of(data: &[u8]) -> [u8; 32]
     finished(extended(Hasher::new(), data))
 }
 
-// D of what a pool has absorbed.
+// D of what a pool has absorbed, within the limit. The block of zeros counts for SHA-256's length.
 pub(crate) fn pool_digest_of(r: Hasher) -> [u8; 32]
+    requires { ⌜ r .length ≤ maxPoolLength ⌝ }
     ensures { λ d. ⌜ d ≡ poolDigest r ⌝ }
 {
-    let d = finished(r);
+    let mut whole = r;
+    whole.length = r.length + 64;
+    let d = finished(whole);
     digest_of(&d)
 }
 
@@ -51,7 +54,7 @@ pub fn sha256(data: &[u8]) -> Hashed
     accepted(digest_of(data))
 }
 
-// D of data: SHA-256 of its SHA-256.
+// D of data: SHA-256 of the SHA-256 of a block of zeros and data.
 pub fn sha_d256(data: &[u8]) -> Hashed
     ensures { λ r. ⌜ (number (r .answer) ≡ lengthNumber maxDMessage (length (now («data» .entry)))) × (r .digest ≡ digestWithin maxDMessage (length (now («data» .entry))) (D (now («data» .entry)))) ⌝ }
 {

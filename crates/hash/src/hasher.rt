@@ -46,6 +46,18 @@ const INITIAL: [u32; 8] = [
     0x5be0_cd19,
 ];
 
+// The hash value after the block of zeros that D has before every message: what a pool starts from.
+const AFTER_ZEROS: [u32; 8] = [
+    0xda56_98be,
+    0x17b9_b469,
+    0x6233_5799,
+    0x779f_beca,
+    0x8ce5_d491,
+    0xc0d2_6243,
+    0xbafe_f9ea,
+    0x1837_a9d8,
+];
+
 // The hash value after the whole blocks of data, each read where it stands.
 fn hash_blocks(chain: [u32; 8], k: &[u32; 64], data: &[u8]) -> [u32; 8]
     requires { ⌜ now k ≡ K ⌝ }
@@ -139,7 +151,11 @@ impl Hasher {
     pub fn empty_pool() -> Hasher
         ensures { λ r. ⌜ r ≡ emptyPool ⌝ }
     {
-        Hasher::new()
+        Hasher {
+            chain: AFTER_ZEROS,
+            tail: [0u8; 64],
+            length: 0,
+        }
     }
 
     // The state after data, or the refusal of a message above the limit.

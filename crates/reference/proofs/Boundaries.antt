@@ -1,12 +1,13 @@
 -- The boundary rows, by computation.
 -- Assumes nothing.
 use mathlib.Core.Path.{refl}
+use Rattle.hash.specs.Constants.{H⁰}
 use Rattle.reference.specs.Boundaries.{answers, refusals, withPools, withFirstPool, withKey, withTimer, withRequests, keyedUnseeded, strings4, given, late, firstSeed, countAfter, Boundaries}
 use Rattle.reference.proofs.Computing.{answering, adding, emptying, seeding, drawing, starting}
 
 -- what these rows alone compute with
 own : Unit {0}
-unfolding answers refusals withPools withFirstPool withKey withTimer withRequests keyedUnseeded strings4 given late firstSeed countAfter
+unfolding H⁰ answers refusals withPools withFirstPool withKey withTimer withRequests keyedUnseeded strings4 given late firstSeed countAfter
 own = tt
 
 pub boundaries : Boundaries
@@ -40,6 +41,7 @@ boundaries =
       poolClauses = refl;
       tails = refl;
       chains = refl;
+      oldPools = refl;
       eachPool = refl;
       keys = refl;
       timerClauses = refl;

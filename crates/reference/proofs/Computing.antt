@@ -1,10 +1,9 @@
 -- What the rows compute with, named once: whatever unfolds one of these unfolds all that its own line names.
 -- Assumes nothing.
 use Rattle.laws.specs.Lists.{tabulate, allZero, sameList}
-use Rattle.hash.specs.Constants.{H⁰}
-use Rattle.hash.specs.Hasher.{zeroFilled, emptyHasher, absorbFrom, absorb}
+use Rattle.hash.specs.Hasher.{zeroFilled, absorbFrom, absorb}
 use Rattle.hash.specs.Sha256.{blocks}
-use Rattle.hash.specs.ShaD.{maxMessage, maxDMessage, maxPoolLength, emptyPool}
+use Rattle.hash.specs.ShaD.{maxMessage, maxDMessage, maxPoolLength, zeroBlockHash, emptyPool}
 use Rattle.generator.specs.Counter.{value, littleEndian, maxCounter}
 use Rattle.generator.specs.Steps.{decode, encode, initial, reseed, blockCount}
 use Rattle.generator.specs.Refusals as Generator
@@ -26,7 +25,7 @@ use Rattle.reference.specs.Readings.{wholeBlocks, reseededState, seededS
 
 -- lists, and a pool's running hash
 unfoldable pub hashing : Unit {0}
-unfolding tabulate allZero sameList H⁰ zeroFilled emptyHasher absorbFrom absorb blocks maxMessage maxDMessage maxPoolLength emptyPool
+unfolding tabulate allZero sameList zeroFilled absorbFrom absorb blocks maxMessage maxDMessage maxPoolLength zeroBlockHash emptyPool
 hashing = tt
 
 -- K and C

@@ -8,6 +8,7 @@ use mathlib.Core.List.{List, [], _∷_, _++_, map}
 use Prim.Native.Nat.{ℕ, _+_, _-_, _^_}
 use lib.ListN.{length, getD, take, replicate, set}
 use Rattle.laws.specs.Lists.{tabulate}
+use Rattle.hash.specs.Constants.{H⁰}
 use Rattle.hash.specs.ShaD.{D, emptyPool}
 use Rattle.hash.specs.declared.hasher.Hasher.{Hasher}
 use Rattle.generator.specs.Steps.{GeneratorState, encode, reseed, pseudoRandomData}
@@ -98,13 +99,13 @@ HeaderRow =
     map (λ (source : ℕ). take 3 (poolAt (step fresh (event source 0 (1 ∷ 2 ∷ [])) .effect .next) 0 .tail)) (0 ∷ 255 ∷ 256 ∷ 900 ∷ 65535 ∷ [])
     ≡ (0 ∷ 0 ∷ 2 ∷ []) ∷ (255 ∷ 0 ∷ 2 ∷ []) ∷ (0 ∷ 1 ∷ 2 ∷ []) ∷ (0x84 ∷ 0x03 ∷ 2 ∷ []) ∷ (255 ∷ 255 ∷ 2 ∷ []) ∷ []
 
--- 22: length + 3 + data length up to 2^61 - 1, in that pool alone; a length above that is 21
+-- 22: length + 3 + data length up to 2^61 - 65, in that pool alone; a length above that is 21
 abbrev pub RoomRow : Type 0
 RoomRow =
     map (λ (n : ℕ). step (withFirstPool fresh (wholeBlocks n)) (event 0 0 (replicate 30 1)) .number)
-    ((2 ^ 61 - 64) ∷ (2 ^ 61) ∷ [])
-    ++ map (λ (n : ℕ). step (withFirstPool fresh (wholeBlocks (2 ^ 61 - 64))) (event 0 0 (replicate n 1)) .number) (31 ∷ 32 ∷ [])
-    ++ answers (withFirstPool fresh (record { chain = replicate 8 0; tail = replicate 64 0; length = 2 ^ 61 - 5 }))
+    ((2 ^ 61 - 128) ∷ (2 ^ 61 - 64) ∷ [])
+    ++ map (λ (n : ℕ). step (withFirstPool fresh (wholeBlocks (2 ^ 61 - 128))) (event 0 0 (replicate n 1)) .number) (31 ∷ 32 ∷ [])
+    ++ answers (withFirstPool fresh (record { chain = replicate 8 0; tail = replicate 64 0; length = 2 ^ 61 - 69 }))
     (event 0 0 (1 ∷ []) ∷ event 0 0 (1 ∷ 2 ∷ []) ∷ event 0 1 (1 ∷ 2 ∷ []) ∷ [])
     ≡ 0 ∷ 21 ∷ 0 ∷ 0 ∷ 0 ∷ 22 ∷ 0 ∷ []
 
@@ -176,8 +177,8 @@ abbrev pub PoolClausesRow : Type 0
 PoolClausesRow =
     map (λ (p : Hasher). malformed (withFirstPool fresh p))
     (wholeBlocks 64
-    ∷ record { chain = replicate 8 0; tail = replicate 64 0; length = 2 ^ 61 - 1 }
-    ∷ record { chain = replicate 8 0; tail = replicate 64 0; length = 2 ^ 61 }
+    ∷ record { chain = replicate 8 0; tail = replicate 64 0; length = 2 ^ 61 - 65 }
+    ∷ record { chain = replicate 8 0; tail = replicate 64 0; length = 2 ^ 61 - 64 }
     ∷ record { chain = replicate 8 0; tail = (1 ∷ 2 ∷ replicate 62 0); length = 66 }
     ∷ record { chain = replicate 8 0; tail = (1 ∷ 2 ∷ 3 ∷ replicate 61 0); length = 66 }
     ∷ record { chain = replicate 8 0; tail = (replicate 63 0 ++ (1 ∷ [])); length = 66 }
@@ -200,9 +201,15 @@ ChainRow =
     tabulate (λ (i : ℕ). malformed (withFirstPool fresh (record { chain = set (emptyPool .chain) i 0; tail = replicate 64 0; length = 0 }))) 8
     ≡ replicate 8 true
 
+-- a pool that began with SHA-256's initial value, before 02 (v): below 64 bytes it is malformed, from there on nothing tells
+abbrev pub OldPoolRow : Type 0
+OldPoolRow =
+    map (λ (n : ℕ). malformed (withFirstPool fresh (record { chain = H⁰; tail = replicate 64 0; length = n }))) (0 ∷ 1 ∷ 63 ∷ 64 ∷ [])
+    ≡ true ∷ true ∷ true ∷ false ∷ []
+
 -- in each of the pools
 abbrev pub EachPoolRow : Type 0
-EachPoolRow = tabulate (λ (i : ℕ). malformed (withPools fresh (set (fresh .pools) i (wholeBlocks (2 ^ 61))))) 32 ≡ replicate 32 true
+EachPoolRow = tabulate (λ (i : ℕ). malformed (withPools fresh (set (fresh .pools) i (wholeBlocks (2 ^ 61 - 64))))) 32 ≡ replicate 32 true
 
 -- 21: C = 0 with a byte of K not zero, at each place
 abbrev pub KeyRow : Type 0
@@ -398,6 +405,7 @@ pub record Boundaries : Type 0 where
   pub poolClauses : PoolClausesRow
   pub tails : TailRow
   pub chains : ChainRow
+  pub oldPools : OldPoolRow
   pub eachPool : EachPoolRow
   pub keys : KeyRow
   pub timerClauses : TimerClausesRow

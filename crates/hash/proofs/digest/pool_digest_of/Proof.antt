@@ -1,13 +1,18 @@
 -- `hash::digest::pool_digest_of` meets its contract.
 -- Assumes nothing.
 use mathlib.Core.Path.{_∙_}
-use Rattle.hash.specs.ShaD.{maxMessage, poolDigest}
+use native.Mathlib.Omega.{arith}
+use Rattle.hash.specs.ShaD.{maxMessage, withZeroBlock, poolDigest}
+use Rattle.hash.proofs.Laws.{pool-length-room}
 use borrow.Author.Needs.{needs}
 use Rattle.hash.proofs.digest.pool_digest_of.Statement.{statement}
 use Rattle.hash.proofs.digest.pool_digest_of.Tie as tie
 
 -- `hash::digest::pool_digest_of` meets its contract.
 -- Assumes nothing.
+
+add-whole : tie.Need-add-whole
+add-whole c = omega (arith, pool-length-room _ (c .before .pre))
 
 finished-requires : tie.Need-finished-requires
 finished-requires c κs = search needs
@@ -20,9 +25,9 @@ unfolding maxMessage
 digest-of-requires c κs = search needs
 
 returns : tie.Need-returns
-unfolding poolDigest
+unfolding poolDigest withZeroBlock
 returns c = c .digest-of .ensures ∙ rw (c .before .before .finished .ensures)
 
 pub pool-digest-of-spec : {M : Type 1} → statement M
 pool-digest-of-spec =
-    tie.close (tie.spec finished-requires slice-aggregate-digest-of digest-of-requires returns)
+    tie.close (tie.spec add-whole finished-requires slice-aggregate-digest-of digest-of-requires returns)

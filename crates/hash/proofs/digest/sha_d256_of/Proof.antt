@@ -3,7 +3,7 @@
 use mathlib.Core.Path.{_∙_}
 use native.Mathlib.Nat.{zero-add}
 use native.Mathlib.Omega.{arith}
-use Rattle.hash.proofs.Laws.{absorb-length, pool-empty-length, pool-digest-joined, d-message-fits}
+use Rattle.hash.proofs.Laws.{absorb-length, pool-empty-length, pool-digest-joined, d-message-fits, pool-holds}
 use borrow.Author.Needs.{needs}
 use Rattle.hash.proofs.digest.sha_d256_of.Statement.{statement}
 use Rattle.hash.proofs.digest.sha_d256_of.Tie as tie
@@ -24,7 +24,9 @@ extended-requires-2 c κs =
     rw (c .extended .ensures, absorb-length, c .before .empty-pool .ensures, pool-empty-length, zero-add) (d-message-fits _ (c .before .before .before .before .pre))
 
 pool-digest-of-requires : tie.Need-pool-digest-of-requires
-pool-digest-of-requires c κs = search needs
+pool-digest-of-requires c κs =
+    rw (c .extended2 .ensures, absorb-length, c .before .extended .ensures, absorb-length, c .before .before .empty-pool .ensures, pool-empty-length, zero-add)
+    (pool-holds _ (c .before .before .before .before .before .pre))
 
 returns : tie.Need-returns
 returns c =

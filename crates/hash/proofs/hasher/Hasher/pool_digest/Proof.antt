@@ -1,7 +1,8 @@
 -- `hash::hasher::Hasher::pool_digest` meets its contract.
 -- Assumes nothing.
-use mathlib.Core.Path.{_∙_}
+use mathlib.Core.Path.{sym, _∙_}
 use native.Mathlib.Nat.{add-zero}
+use borrow.Author.Tests.{ltb-false}
 use Rattle.hash.specs.ShaD.{maxMessage, maxDMessage, maxPoolLength}
 use Rattle.hash.proofs.Answers.{hash-refused, hash-accepted}
 use borrow.Author.Needs.{needs}
@@ -24,7 +25,10 @@ returns c =
     hash-refused _ _ (t .result) (t .ensures ∙ rw add-zero) _ _ _ (c .before .if1 .taken) (c .refused .ensures)
 
 pool-digest-of-requires : tie.Need-pool-digest-of-requires
-pool-digest-of-requires c κs = search needs
+unfolding maxPoolLength maxDMessage maxMessage
+pool-digest-of-requires c κs =
+    let t = c .before .too-long in
+    ltb-false _ _ (sym (t .ensures ∙ rw add-zero) ∙ c .if1 .left)
 
 accepted-requires : tie.Need-accepted-requires
 accepted-requires c κs = search needs
