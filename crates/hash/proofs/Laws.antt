@@ -122,12 +122,21 @@ length-zero-block = refl
 zeros-counted : (m : List ℕ) → withZeroBlock (poolOf m) ≡ hasherOf (zeroBlock ++ m)
 unfolding withZeroBlock hasherOf emptyPool absorbFrom
 zeros-counted m =
-    let n : length m + 64 ≡ length (zeroBlock ++ m) = rw (length-append, length-zero-block) (omega arith) in
+    let left : Hasher = absorbFrom (emptyPool .chain) m (length m) in
+    let n : withZeroBlock left .length ≡ length (zeroBlock ++ m) = rw (length-append, length-zero-block) (omega arith) in
     rw (pool-is m, n, zero-block-hash) (sym (Absorb.after-next H⁰ zeroBlock m (length (zeroBlock ++ m)) length-zero-block))
 
 pub pool-digest-is : (m : List ℕ) → PoolGivesD m
 unfolding poolDigest D
 pool-digest-is m = rw (zeros-counted m, finish-hasher (zeroBlock ++ m))
+
+-- the digest with the zero block counted, as the code makes it: n is the count
+pub pool-digest-counted : (r : Hasher) (n : ℕ) → n ≡ r .length + 64
+    → sha256 (finish (record { chain = r .chain; tail = r .tail; length = n })) ≡ poolDigest r
+unfolding poolDigest withZeroBlock
+pool-digest-counted r n e =
+    let counted : n ≡ withZeroBlock r .length = omega (arith, e) in
+    rw counted
 
 pub pool-empty-length : emptyPool .length ≡ 0
 unfolding emptyPool
@@ -156,7 +165,7 @@ pool-digest-joined a b = ap poolDigest (absorb-pool′ a b) ∙ pool-digest-is (
 
 -- a message that D takes is one that SHA-256 takes
 pub d-message-fits : (n : ℕ) → n ≤ maxDMessage → n ≤ maxMessage
-unfolding maxDMessage
+unfolding maxDMessage maxMessage
 d-message-fits n h = omega arith
 
 -- and so is what a pool may hold

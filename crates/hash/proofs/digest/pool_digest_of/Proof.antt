@@ -2,8 +2,8 @@
 -- Assumes nothing.
 use mathlib.Core.Path.{_∙_}
 use native.Mathlib.Omega.{arith}
-use Rattle.hash.specs.ShaD.{maxMessage, withZeroBlock, poolDigest}
-use Rattle.hash.proofs.Laws.{pool-length-room}
+use Rattle.hash.specs.ShaD.{maxMessage}
+use Rattle.hash.proofs.Laws.{pool-length-room, pool-digest-counted}
 use borrow.Author.Needs.{needs}
 use Rattle.hash.proofs.digest.pool_digest_of.Statement.{statement}
 use Rattle.hash.proofs.digest.pool_digest_of.Tie as tie
@@ -25,8 +25,9 @@ unfolding maxMessage
 digest-of-requires c κs = search needs
 
 returns : tie.Need-returns
-unfolding poolDigest withZeroBlock
-returns c = c .digest-of .ensures ∙ rw (c .before .before .finished .ensures)
+returns c =
+    let finished = c .before .before .finished in
+    c .digest-of .ensures ∙ rw (finished .ensures) (pool-digest-counted _ _ (omega arith))
 
 pub pool-digest-of-spec : {M : Type 1} → statement M
 pool-digest-of-spec =
