@@ -1,6 +1,7 @@
 /* WORK COUNT: makes COUNT calls of the kind WORK with the implementation linked in, and prints the seconds and the
    bytes it ended with. event: 32 bytes, the 32 pools in turn; request: 16 bytes; large: a request of 1 MiB; update: a
-   seed. Before, every pool has had two events, a reseed has used pool 0, and every pool has had a third event. */
+   seed; reseed: two events for pool 0 and a reseed from the pools, and a request after the last. Before, every pool has
+   had two events, a reseed has used pool 0, and every pool has had a third event. */
 #include "calls.h"
 #include "timing.h"
 #include <stdio.h>
@@ -33,6 +34,14 @@ static void updates(size_t count, uint8_t seed[64]) {
     for (size_t i = 0; i < count; i++) made(call_update(seed));
 }
 
+static void reseeds(size_t count) {
+    static const uint8_t data[32];
+    for (size_t i = 0; i < count; i++) {
+        for (int j = 0; j < 2; j++) made(call_event(0, data));
+        made(call_reseed());
+    }
+}
+
 static void prepare(void) {
     made(call_new());
     events(0, 2 * POOLS);
@@ -46,7 +55,11 @@ static double perform(const char *work, size_t count, uint8_t buffer[LARGE]) {
     if (strcmp(work, "event") == 0) events(3 * POOLS, count);
     else if (strcmp(work, "request") == 0) requests(count, buffer, 16);
     else if (strcmp(work, "large") == 0) requests(count, buffer, LARGE);
-    else updates(count, buffer);
+    else if (strcmp(work, "update") == 0) updates(count, buffer);
+    else {
+        reseeds(count);
+        requests(1, buffer, 16);
+    }
     return now() - start;
 }
 

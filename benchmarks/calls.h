@@ -13,7 +13,7 @@ bool call_new(void);
 /* An event of 32 bytes from source 0. An implementation that picks pools itself takes them in turn from pool 0. */
 bool call_event(uint32_t pool, const uint8_t data[32]);
 
-/* A reseed from the pools, made where pool 0 holds two events and no reseed was made before. */
+/* A reseed from the pools, made where pool 0 has had two events since the last. */
 bool call_reseed(void);
 
 /* A request with no reseed due. */

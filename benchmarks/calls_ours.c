@@ -1,9 +1,8 @@
 #include "calls.h"
 #include "fortuna.h"
 
-enum { CLOCK = 1000 };
-
 static fortuna_state state;
+static uint32_t reading = 1000;
 
 bool call_new(void) {
     state = fortuna_new();
@@ -14,20 +13,22 @@ bool call_event(uint32_t pool, const uint8_t data[32]) {
     return fortuna_event(&state, 0, pool, data, 32) == FORTUNA_DONE;
 }
 
-/* Pool 0 has its 64 bytes, so a request makes the first reseed; later ones at the same reading make none. */
+/* Pool 0 has its 64 bytes, so that a request 101 ms after the last reseed makes one; later ones at the same reading make
+   none. */
 bool call_reseed(void) {
     uint8_t none;
-    fortuna_answer a = fortuna_request(&state, CLOCK, &none, 0);
-    return a.number == FORTUNA_DONE && a.emptied == 1;
+    reading += 101;
+    fortuna_answer a = fortuna_request(&state, reading, &none, 0);
+    return a.number == FORTUNA_DONE && a.emptied > 0;
 }
 
 bool call_request(uint8_t *out, size_t length) {
-    fortuna_answer a = fortuna_request(&state, CLOCK, out, length);
+    fortuna_answer a = fortuna_request(&state, reading, out, length);
     return a.number == FORTUNA_DONE && a.emptied == 0;
 }
 
 bool call_update(uint8_t seed[64]) {
-    fortuna_answer a = fortuna_update(&state, CLOCK, seed, 64);
+    fortuna_answer a = fortuna_update(&state, reading, seed, 64);
     return a.number == FORTUNA_DONE && a.emptied == 0;
 }
 

@@ -1,9 +1,8 @@
 #include "calls.h"
 #include "plain_fortuna.h"
 
-enum { CLOCK = 1000 };
-
 static plain_state state;
+static uint32_t reading = 1000;
 
 bool call_new(void) {
     plain_new(&state);
@@ -14,21 +13,23 @@ bool call_event(uint32_t pool, const uint8_t data[32]) {
     return plain_event(&state, 0, pool, data, 32) == 0;
 }
 
-/* Pool 0 has its 64 bytes, so a request makes the first reseed; later ones at the same reading make none. */
+/* Pool 0 has its 64 bytes, so that a request 101 ms after the last reseed makes one; later ones at the same reading make
+   none. */
 bool call_reseed(void) {
     uint32_t emptied;
     uint8_t none;
-    return plain_request(&state, CLOCK, &none, 0, &emptied) == 0 && emptied == 1;
+    reading += 101;
+    return plain_request(&state, reading, &none, 0, &emptied) == 0 && emptied > 0;
 }
 
 bool call_request(uint8_t *out, size_t length) {
     uint32_t emptied;
-    return plain_request(&state, CLOCK, out, length, &emptied) == 0 && emptied == 0;
+    return plain_request(&state, reading, out, length, &emptied) == 0 && emptied == 0;
 }
 
 bool call_update(uint8_t seed[64]) {
     uint32_t emptied;
-    return plain_update(&state, CLOCK, seed, 64, &emptied) == 0 && emptied == 0;
+    return plain_update(&state, reading, seed, 64, &emptied) == 0 && emptied == 0;
 }
 
 void pool_sum(uint32_t sum[8]) {

@@ -10,6 +10,20 @@ void work_sha256(const uint8_t *data, size_t length, uint8_t digest[32]) {
     sha256_digest(&s, 32, digest);
 }
 
+/* The zero block is hashed once, and each D goes on from there. */
+void work_sha_d256(size_t count, uint8_t message[32]) {
+    static const uint8_t zeros[64];
+    struct sha256_ctx s, after_zeros;
+    sha256_init(&after_zeros);
+    sha256_update(&after_zeros, sizeof zeros, zeros);
+    for (size_t i = 0; i < count; i++) {
+        s = after_zeros;
+        sha256_update(&s, 32, message);
+        sha256_digest(&s, 32, message);
+        work_sha256(message, 32, message);
+    }
+}
+
 void work_aes256(const uint8_t key[32], size_t count, uint8_t block[16]) {
     struct aes256_ctx k;
     aes256_set_encrypt_key(&k, key);

@@ -2,29 +2,37 @@
 #include <string.h>
 #include <tomcrypt.h>
 
-static const uint64_t max_pool_length = (UINT64_C(1) << 61) - 1;
 static const size_t max_request = 1048576;
 static const uint8_t zeros[64];
-static const uint32_t initial_chain[8] = {
-    0x6a09e667, 0xbb67ae85, 0x3c6ef372, 0xa54ff53a, 0x510e527f, 0x9b05688c, 0x1f83d9ab, 0x5be0cd19,
+
+/* D begins with 64 zero bytes, which a pool's length does not count. SHA-256 then has this hash value. */
+static const uint64_t max_pool_length = (UINT64_C(1) << 61) - 65;
+static const uint32_t zero_block_chain[8] = {
+    0xda5698be, 0x17b9b469, 0x62335799, 0x779fbeca, 0x8ce5d491, 0xc0d26243, 0xbafef9ea, 0x1837a9d8,
 };
 
 /* ---- pools */
 
 static void empty(plain_pool *p)
 {
-    memcpy(p->chain, initial_chain, sizeof p->chain);
+    memcpy(p->chain, zero_block_chain, sizeof p->chain);
     memset(p->tail, 0, sizeof p->tail);
     p->length = 0;
+}
+
+/* SHA-256 that has had so many blocks, and has this hash value. libtomcrypt's length is in bits. */
+static void resume(hash_state *h, const uint32_t chain[8], uint64_t blocks)
+{
+    memcpy(h->sha256.state, chain, sizeof h->sha256.state);
+    h->sha256.length = 512 * blocks;
+    h->sha256.curlen = 0;
 }
 
 /* libtomcrypt has no call for one block of SHA-256, so a running hash with no bytes waiting is given one. */
 static void compress(uint32_t chain[8], const uint8_t block[64])
 {
     hash_state h;
-    memcpy(h.sha256.state, chain, sizeof h.sha256.state);
-    h.sha256.length = 0;
-    h.sha256.curlen = 0;
+    resume(&h, chain, 0);
     sha256_process(&h, block, 64);
     memcpy(chain, h.sha256.state, sizeof h.sha256.state);
 }
@@ -54,14 +62,13 @@ static void hash_again(uint8_t digest[32])
     sha256_done(&h, digest);
 }
 
-/* D of all that the pool gained. libtomcrypt's length has the bits of the whole blocks only. */
+/* D of all that the pool gained. */
 static void pool_digest(const plain_pool *p, uint8_t digest[32])
 {
     hash_state h;
-    memcpy(h.sha256.state, p->chain, sizeof h.sha256.state);
+    resume(&h, p->chain, 1 + p->length / 64);
     memcpy(h.sha256.buf, p->tail, sizeof h.sha256.buf);
     h.sha256.curlen = p->length % 64;
-    h.sha256.length = p->length / 64 * 512;
     sha256_done(&h, digest);
     hash_again(digest);
 }
@@ -71,7 +78,7 @@ static bool malformed_pool(const plain_pool *p)
     size_t used = p->length % 64;
     if (p->length > max_pool_length) return true;
     if (memcmp(p->tail + used, zeros, 64 - used) != 0) return true;
-    return p->length < 64 && memcmp(p->chain, initial_chain, sizeof p->chain) != 0;
+    return p->length < 64 && memcmp(p->chain, zero_block_chain, sizeof p->chain) != 0;
 }
 
 /* ---- the generator */
@@ -100,10 +107,11 @@ static bool spent(const plain_state *s, uint64_t growth)
     return load(s->counter + 8) == UINT64_MAX && load(s->counter) > UINT64_MAX - growth;
 }
 
+/* The key becomes D of key and seed. */
 static void reseed(plain_state *s, const uint8_t *seed, size_t length)
 {
     hash_state h;
-    sha256_init(&h);
+    resume(&h, zero_block_chain, 1);
     sha256_process(&h, s->key, sizeof s->key);
     sha256_process(&h, seed, length);
     sha256_done(&h, s->key);

@@ -10,7 +10,8 @@
 /* An event's header in its pool is the source in two bytes, least significant first, and the length in one. */
 enum { PLAIN_POOLS = 32, PLAIN_HEADER = 3, PLAIN_DATA = 32, PLAIN_SEED = 64 };
 
-/* The hash value over the whole blocks so far, the bytes after them with zeros behind, and the count of all bytes. */
+/* The hash value over 64 zero bytes and the whole blocks so far, the bytes after them with zeros behind, and the count
+   of all bytes without the 64 zeros. */
 typedef struct {
     uint32_t chain[8];
     uint8_t tail[64];

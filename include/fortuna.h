@@ -1,6 +1,16 @@
 /* Fortuna with its pools, timer and seeds, the generator alone, SHA-256, D and AES-256: the static library fortuna_c,
    for x86-64. It calls memcpy and memset, and nothing else.
 
+   STATIONS START FRESH AFTER THIS UPDATE: call fortuna_new, then fortuna_update with the stored seed. Take up no
+   fortuna_state that was kept by a version whose header has fortuna_double_sha256. Stored seeds stay good, and so do
+   values of fortuna_generator.
+
+   Why: that version went by the Fortuna book's edition of 2003. This one goes by the edition of 2010, whose D hashes 64
+   zero bytes before the message. So every pool's running hash begins with them, and in a kept state it begins without.
+   As long as a pool of the kept state holds less than 64 bytes, every call refuses it (FORTUNA_MALFORMED); do not mend
+   it to get past that. Once all 32 hold 64 bytes or more, nothing tells: the calls go on, and the keys are those of
+   neither edition.
+
    The caller sees to it that a pointer points to as many bytes, or numbers of a list, as its length says and is not
    null, not even at length 0, and that a buffer overlaps nothing else that the same call is lent. Then every call
    returns, and none allocates, keeps a pointer, or reads or changes anything but what it is lent.
@@ -15,7 +25,7 @@
    (tests/compiled/footprint.py measures it; docs/BENCHMARKS.md has the figures):
 
        fortuna_sha256               2,048
-       fortuna_double_sha256        2,048
+       fortuna_sha_d256             2,048
        fortuna_aes256_expand        1,280
        fortuna_aes256_block         1,024
        fortuna_generator_new          256
@@ -64,18 +74,20 @@ enum {
     FORTUNA_BAD_SEED = 15,
     /* a line of a log that is no frame; no function returns it, it stands in fortuna_log's answers */
     FORTUNA_NO_FRAME = 16,
-    /* a message above 2^61 - 1 bytes, or a seed for the generator alone above 2^61 - 33 bytes */
+    /* a message for SHA-256 above 2^61 - 1 bytes, a message for D above 2^61 - 65 bytes, or a seed for the generator
+       alone above 2^61 - 97 bytes */
     FORTUNA_TOO_LONG = 17,
     /* a draw: n outside 1 to 2^32. A shuffle: more than 256 numbers, or two that are equal */
     FORTUNA_SLOT_RANGE = 31,
     /* a draw: tries outside 1 to 64 */
     FORTUNA_TRY_RANGE = 32,
-    /* a malformed state, which no run of calls leaves: a pool length above 2^61 - 1; a byte after a pool's tail that is
-       not 0; a pool below 64 bytes whose chain is not SHA-256's initial value; counter 0 with a key that is not all
-       zero; counter 0 with reseeded set; reseeded clear with a last_reseed or a reseed_count that is not 0; counter 0
-       with a key_requests above 0. For the generator alone: counter 0 with a key that is not all zero */
+    /* a malformed state, which no run of calls leaves: a pool length above 2^61 - 65; a byte after a pool's tail that
+       is not 0; a pool below 64 bytes whose chain is not the empty pool's, which stands at fortuna_pool; counter 0 with
+       a key that is not all zero; counter 0 with reseeded set; reseeded clear with a last_reseed or a reseed_count that
+       is not 0; counter 0 with a key_requests above 0. For the generator alone: counter 0 with a key that is not all
+       zero */
     FORTUNA_MALFORMED = 21,
-    /* an event: its pool's length with the 3 bytes of header and the data would pass 2^61 - 1 */
+    /* an event: its pool's length with the 3 bytes of header and the data would pass 2^61 - 65 */
     FORTUNA_POOL_FULL = 22,
     /* a request, a seed write, a draw or a shuffle of 2 numbers or more, with counter 0 and no pool reseed due. For the
        generator alone: blocks or a request with counter 0 */
@@ -90,9 +102,14 @@ enum {
    Returns FORTUNA_DONE or FORTUNA_TOO_LONG. */
 uint32_t fortuna_sha256(const uint8_t *data, size_t length, uint8_t digest[32]);
 
-/* D: SHA-256 of the 32-byte SHA-256 of length bytes at data, into 32 bytes at digest.
+/* D, the SHA_d-256 of the Fortuna book's 2010 edition, of length bytes at data, into 32 bytes at digest: SHA-256 of the
+   32-byte SHA-256 of one string, 64 zero bytes and then the data. To check it by hand, here for the data "abc":
+
+       { head -c 64 /dev/zero; printf abc; } | openssl dgst -sha256 -binary | sha256sum
+
+   which is 4f16deb3ad853b88d8585b018319ad61455c1aba98a77a72b8fd324cbf0e775a.
    Returns FORTUNA_DONE or FORTUNA_TOO_LONG. */
-uint32_t fortuna_double_sha256(const uint8_t *data, size_t length, uint8_t digest[32]);
+uint32_t fortuna_sha_d256(const uint8_t *data, size_t length, uint8_t digest[32]);
 
 /* An expanded AES-256 key: the 60 words of FIPS 197's key expansion, 4 bytes each. */
 typedef struct {
@@ -159,8 +176,12 @@ static inline uint32_t fortuna_generator_request_at(fortuna_generator *g, uint8_
 
 /* ---- Fortuna: the generator, 32 pools, the timer of their reseeds, and seeds (Fortuna, 9.5 and 9.6) */
 
-/* A pool: the running hash over its whole blocks, the bytes after them with zeros behind, and the count of all its
-   bytes, headers too. Empty: SHA-256's initial value, zeros, 0. */
+/* A pool: the running hash over 64 zero bytes and the pool's whole blocks, the bytes after them with zeros behind, and
+   the count of the pool's bytes, headers too. The count is without the 64 zero bytes; the bit length in the padding,
+   when a reseed takes the pool's D, is with them. Empty: tail and length 0, and as the chain SHA-256's hash value after
+   one block of 64 zero bytes:
+
+       da5698be 17b9b469 62335799 779fbeca 8ce5d491 c0d26243 bafef9ea 1837a9d8 */
 typedef struct {
     uint32_t chain[8];
     uint8_t tail[64];
@@ -171,18 +192,14 @@ typedef struct {
    whether one was made. Any values may stand in it, save that the byte of reseeded is 0 or 1. Another byte there is
    outside what is proved, and no call looks for it. A page of flash memory that was never written, or only in part, may
    hold one: before such bytes are copied over a state, see that the one at offsetof(fortuna_state, reseeded) is 0 or 1.
-   A stored state that is taken up twice gives the same keys twice; fortuna_update is made for a restart.
+   A stored state that is taken up twice gives the same keys twice; fortuna_update is made for a restart. One that was
+   stored before the 2010 edition has the same layout and must not be taken up at all: the top of this file says why.
 
    How stale the key is: read state.key_requests, at any time between calls. It is the number of accepted requests, seed
    calls and single tries included, since the last pool reseed or the fresh start, stopping at 65,535. The request, seed
    call or try that makes the pool reseed leaves 1; tries before FORTUNA_NONE_DRAWN count too. The reseed that
    fortuna_update makes with its seed is not a pool reseed, so an update adds 1. An event, a refused call and a shuffle of
-   0 or 1 numbers change nothing.
-
-   A state stored by a version without key_requests. Size (3,392 bytes) and the places of all other fields are as they
-   were, but the two bytes of key_requests were padding then and may hold anything. Set the field before the first call:
-   to 0, where the number is not known, and always to 0 where the counter is 0. Otherwise a counter of 0 may give
-   FORTUNA_MALFORMED, and the number tells nothing until the next pool reseed; the bytes drawn do not depend on it. */
+   0 or 1 numbers change nothing. */
 typedef struct {
     fortuna_generator generator;
     fortuna_pool pools[32];

@@ -188,6 +188,8 @@ static void run_log(void)
 
 int main(void)
 {
+    /* Fresh at each start, with the seed to go on from. A state kept from before the 2010 edition's D could give wrong
+       keys, and nothing would tell: the header says why. */
     fortuna_state f = fortuna_new();
 
     draw_key(&f, 0);

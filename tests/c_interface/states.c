@@ -13,7 +13,7 @@
 
 enum { EVENT = 1, REQUEST, UPDATE, WRITE, DRAW, SHUFFLE };
 
-/* States stored before key_requests was there keep their size and the places of their other fields. */
+/* The layout that stored states count on. */
 _Static_assert(sizeof(fortuna_state) == 3392, "the state's size");
 _Static_assert(offsetof(fortuna_state, reseeded) == 3384, "where reseeded stands");
 _Static_assert(offsetof(fortuna_state, key_requests) == 3386, "where key_requests stands");

@@ -62,7 +62,7 @@ enum { CLOCK = 9999 };
 
 static void nothing(void) {}
 static void sha256(void) { fortuna_sha256(data, 1000, out); }
-static void double_sha256(void) { fortuna_double_sha256(data, 1000, out); }
+static void sha_d256(void) { fortuna_sha_d256(data, 1000, out); }
 static void expand(void) { expanded = fortuna_aes256_expand(data); }
 static void block(void) { fortuna_aes256_block(expanded, out); }
 static void generator_new(void) { generator = fortuna_generator_new(); }
@@ -117,7 +117,7 @@ static const struct {
     bool on_state;
 } cases[] = {
     {"fortuna_sha256", seeded, sha256, false},
-    {"fortuna_double_sha256", seeded, double_sha256, false},
+    {"fortuna_sha_d256", seeded, sha_d256, false},
     {"fortuna_aes256_expand", seeded, expand, false},
     {"fortuna_aes256_block", seeded, block, false},
     {"fortuna_generator_new", seeded, generator_new, false},

@@ -100,6 +100,7 @@ fn replay() {
 }
 
 fn main() -> Result<(), Refusal> {
+    // Fresh at each start, with the seed to go on from.
     let mut f = Fortuna::new();
     let mut flash = stored_seed();
 
