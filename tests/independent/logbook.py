@@ -86,6 +86,10 @@ class Logbook:
         """The string whose D the pool gives to a reseed."""
         return self.bookings[pool].get(number, b"")
 
+    def digest(self, pool):
+        """What the pool gives to reseed R."""
+        return self.d(self.given(pool, self.reseeds))
+
     def due(self, clock):
         return self.length(0) >= 64 and (self.reseeds == 0 or (clock - self.mark) % CLOCK > 100)
 
@@ -200,7 +204,7 @@ class Logbook:
         self.reseeds += 1
         self.mark = clock
         used = [i for i in range(POOLS) if self.reseeds % 2**i == 0]
-        self.reseed_generator(b"".join(self.d(self.given(i, self.reseeds)) for i in used))
+        self.reseed_generator(b"".join(map(self.digest, used)))
         return len(used)
 
     def output(self, clock, n):

@@ -107,7 +107,6 @@ def readings():
     yield "data", [Logbook().event(0, 0, bytes(n))[0] for n in (0, 1, 32, 33)], [13, 0, 0, 13]
     bad = ((65536, 32), (65535, 32), (65535, 31))
     yield "source, pool, data", [Logbook().event(*a, b"")[0] for a in bad], [11, 12, 13]
-    yield "pool's end", [event_at(2**61 - 65 - left) for left in (35, 34)], [0, 22]
     yield "seed", [Logbook().write(0, bytes(n))[0] for n in (63, 64, 65)], [15, 23, 15]
     yield "refused buffer", Logbook().update(0, b"\x05" * 63), (15, 0, b"\x05" * 63)
     yield "view of a pool", all(digest_of_view(n) for n in (0, *range(4, 200))), True
@@ -191,7 +190,8 @@ def pool_answers(chain, lengths):
 
 
 def pool_readings():
-    """A pool's length and running hash in 21; 22 is left where the event has no room."""
+    """A pool's length and running hash in 21 and 22."""
+    yield "pool's end", [event_at(2**61 - 65 - left) for left in (35, 34)], [0, 22]
     lengths = [2**61 - below for below in (69, 68, 65, 64, 1, 0)]
     yield "pool's length", list(pool_answers(INITIAL, lengths)), [0, 22, 22, 21, 21, 21]
     yield "pool's length, far off", list(pool_answers(INITIAL, (2**64 - 64, 2**64 - 1))), [21, 21]
