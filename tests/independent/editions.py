@@ -10,12 +10,12 @@ no FILE is given.
                        option, or 2003, for stations from before: their D had no 64 zero bytes in front
   --header BYTES       the bytes of the source in an event's header: 2, or with --edition 2003 also 1, for stations from
                        before frame 05
-  --compare ANSWERS    tells which of these three a station was: ANSWERS is the file of what it answered to the log.
-                       Prints for each whether its answers are those, or the first line that differs
+  --compare ANSWERS    tells which of the three kinds a station was: 2010, 2003, or 2003 with header 1. ANSWERS is the
+                       file of what it answered to the log. Prints for each kind the first line that differs, if any
   --help               prints this
 
-Exit status: 0 every line was answered, or exactly one of the three gives ANSWERS; 1 none of them does, or more than one,
-as for a log that draws no key; 2 bad arguments, or a file can't be read.
+Exit status: 0 every line was answered, or exactly one kind gives ANSWERS; 1 none does, or more than one, as for a log
+that draws no key; 2 bad arguments, or a file can't be read.
 """
 import signal
 import sys
