@@ -2,6 +2,7 @@
 """Runs the commands in bin/ as a user does: from another folder, through a link, with wrong words and missing files.
 
     tests/bench/commands.py      a line for each check; exits 1 where one failed"""
+import hashlib
 import os
 import subprocess
 import sys
@@ -11,11 +12,24 @@ from pathlib import Path
 ROOT = Path(__file__).resolve().parents[2]
 sys.path.append(str(ROOT / "tests" / "independent"))
 
-from frames import event, log_of, request, update, write
+from frames import event, log_of, request, update, wide_event, write
 from program import Failure
 
 LOGS = ROOT / "tests" / "bench" / "logs"
 COMMANDS = ("bench", "logbook", "checklist")
+ARCHIVE = LOGS / "archive.log"
+KINDS = {"2010": [], "2003": ["--edition", "2003"], "2003, header 1": ["--edition", "2003", "--header", "1"]}  # of logbook
+# What stations of each kind answered to the archive's log. Those from before are kept, by the SHA-256 here: the versions that ran
+# then worked them out, and no program here makes them again.
+ANSWERED = {
+    "2010": LOGS / "archive.answers",
+    "2003": ROOT / "tests" / "bench" / "editions" / "2003.answers",
+    "2003, header 1": ROOT / "tests" / "bench" / "editions" / "2003-header-1.answers",
+}
+KEPT = {
+    "2003": "857b1d17e2ef3f0153a237ac20d729b80990ae29249ef9bbe02da56b56d17032",
+    "2003, header 1": "3f5e1dde009a5650d321e39d88fc86289639a39dc9f3f200fee96bd567483349",
+}
 
 
 def run(words, folder, **rest):
@@ -147,7 +161,107 @@ def tells_staleness(folder):
     tell([checklist, "stale", "--log", "letter.log"], folder, 1, "no line of this log is a frame")
 
 
-CHECKS = (helps, refuses, answers, failing_streams, at_once, no_pass, tells_staleness)
+# ---- stations from before: bin/logbook --edition, --header and --compare
+
+
+def refuses_editions(folder):
+    logbook = str(ROOT / "bin" / "logbook")
+    for words, said in (
+        (["--edition", "1999"], "argument --edition: invalid choice: '1999'"),
+        (["--edition", "2003", "--header", "3"], "argument --header: invalid choice: '3'"),
+        (["--header", "1"], "--header 1 goes with --edition 2003"),
+        (["--edition", "2010", "--header", "1"], "--header 1 goes with --edition 2003"),
+        (["--compare", "a.answers", "--edition", "2003"], "--compare tries every edition and header"),
+        (["--compare", "a.answers", "--header", "2"], "--compare tries every edition and header"),
+        (["--compare", "a.answers"], "logbook: a.answers: No such file or directory"),
+        (["--compare", ".", str(ARCHIVE)], "logbook: .: Is a directory"),
+        (["--compare", str(ANSWERED["2003"]), "a.log"], "logbook: a.log: No such file or directory"),
+        (["--compare"], "argument --compare: expected one argument"),
+    ):
+        tell([logbook, *words], folder, 2, said)
+
+
+def told_by_hand():
+    """Lines of a log, and the answers of each kind: by the bytes of a header, and whether there is a frame 05. D shows
+    nowhere, since no byte is drawn."""
+    yield [event(7, 0, bytes(30)), event(8, 0, bytes(30)), request(0, 0)], {kind: b"00\n00\n00 01\n" for kind in KINDS}
+    short = {"2010": b"00\n00\n00 01\n", "2003": b"00\n00\n00 01\n", "2003, header 1": b"00\n00\n23\n"}
+    yield [event(7, 0, bytes(30)), event(8, 0, bytes(29)), request(0, 0)], short
+    wide = [wide_event(7, 3, b"\xa1"), wide_event(900, 32, b"\xa1"), wide_event(7, 3, bytes(125)), event(7, 3, bytes(126))]
+    yield wide, {"2010": b"00\n12\n13\n16\n", "2003": b"00\n12\n13\n16\n", "2003, header 1": b"16\n16\n16\n16\n"}
+
+
+def works_out_editions(folder):
+    """Each kind answers as its stations did."""
+    for kind, digest in KEPT.items():
+        if hashlib.sha256(ANSWERED[kind].read_bytes()).hexdigest() != digest:
+            raise Failure(f"{ANSWERED[kind]} is not what was kept")
+    cases = [(ARCHIVE.read_bytes(), {kind: path.read_bytes() for kind, path in ANSWERED.items()})]
+    cases += [(log_of(lines), expected) for lines, expected in told_by_hand()]
+    for log, expected in cases:
+        (folder / "old.log").write_bytes(log)
+        for kind, words in KINDS.items():
+            found = tell([str(ROOT / "bin" / "logbook"), *words, "old.log"], folder, 0, None)
+            if found != expected[kind].decode():
+                raise Failure(f"edition {kind}: other answers than its stations gave, to {log[:80]}: {found[:200]}")
+
+
+NONE = "no edition gives these answers\n"
+SEVERAL = "more than one edition gives these answers: no key tells them apart\n"
+
+
+def verdicts(*texts):
+    """The lines that --compare prints for the three kinds."""
+    return "".join(f"edition {kind}: {text}\n" for kind, text in zip(KINDS, texts, strict=True))
+
+
+def difference(line, lacking=None):
+    return f"first difference at line {line}" + (f", which {lacking} does not have" if lacking else "")
+
+
+def archive_comparisons():
+    """Answers to the archive's log, and what --compare says of them with its status. The first key is drawn at line 7."""
+    whole, other, old = "all 3336 lines agree", difference(7), ANSWERED["2003"].read_bytes()
+    yield ANSWERED["2010"].read_bytes(), verdicts(whole, other, other), 0
+    yield old, verdicts(other, whole, other), 0
+    yield ANSWERED["2003, header 1"].read_bytes(), verdicts(other, other, whole), 0
+    yield old.removesuffix(b"\n"), verdicts(other, whole, other), 0
+    cut = b"".join(old.splitlines(keepends=True)[:100])
+    yield cut, verdicts(other, difference(101, "ANSWERS"), other) + NONE, 1
+    yield old + b"00\n", verdicts(other, difference(3337, "the log"), other) + NONE, 1
+    yield b"00\n00\n" + b"A" * 10**6, verdicts(*[difference(3)] * 3) + NONE, 1
+    yield b"", verdicts(*[difference(1, "ANSWERS")] * 3) + NONE, 1
+
+
+def comparisons():
+    """A log, answers, and what --compare says of them with its status."""
+    log = ARCHIVE.read_bytes()
+    yield from ((log, *rest) for rest in archive_comparisons())
+    example, answered = ((LOGS / f"example.{kind}").read_bytes() for kind in ("log", "answers"))
+    yield example, answered, verdicts(*["all 7 lines agree"] * 3) + SEVERAL, 1
+    yield b"", b"", verdicts(*["all 0 lines agree"] * 3) + SEVERAL, 1
+    wide = log_of([event(7, 3, b"\xa1"), wide_event(7, 3, b"\xa1")])
+    same, other = "all 2 lines agree", difference(2)
+    yield wide, b"00\n00\n", verdicts(same, same, other) + SEVERAL, 1
+    yield wide, b"00\n16\n", verdicts(other, other, same), 0
+
+
+def tells_editions(folder):
+    """By the log's name or on standard input."""
+    words = [str(ROOT / "bin" / "logbook"), "--compare", "some.answers"]
+    for log, answered, expected, status in comparisons():
+        (folder / "some.log").write_bytes(log)
+        (folder / "some.answers").write_bytes(answered)
+        with open(folder / "some.log", "rb") as stream:
+            found = [tell([*words, "some.log"], folder, status, None), tell(words, folder, status, None, stdin=stream)]
+        if found != [expected] * 2:
+            raise Failure(f"--compare, {log[:40]}, {answered[:40]}: expected '{expected}', found: {found}")
+
+
+CHECKS = (
+    *(helps, refuses, answers, failing_streams, at_once, no_pass, tells_staleness),
+    *(refuses_editions, works_out_editions, tells_editions),
+)
 
 
 def main():

@@ -224,7 +224,8 @@ def reseeds():
 
 
 def archive():
-    """600 reseeds as before frame 05, when a pool's header had 2 bytes: the lines stay, what is drawn is new."""
+    """600 reseeds as before frame 05, when a pool's header had 2 bytes: the lines stay, what is drawn is new. What was drawn
+    then is in tests/bench/editions."""
     log = ARCHIVE.read_bytes()
     assert hashlib.sha256(log).hexdigest() == ARCHIVE_SHA256, f"{ARCHIVE} is not the log that was kept"
     return log

@@ -1,23 +1,33 @@
 #!/usr/bin/env python3
-"""Shows that October's made log (tests/bench/checklist.py) tells wrong benches from the right one.
+"""Shows that October's made log (tests/bench/checklist.py) tells wrong benches from the right one; those with a wrong
+block of zeros (02, v) are told by a stored log too. What no bench can show, the readings tell.
 
-    tests/bench/wrong_benches.py      a line for each wrong bench; exits 1 where one gives the right answers
+    tests/bench/wrong_benches.py      a line for each wrong one; exits 1 where one gives the right answers
 
 Each wrong bench is tests/independent/logbook.py with one thing wrong, which no refused line's own answer shows."""
 import contextlib
+import hashlib
 import io
 import sys
 import tempfile
+from functools import partial
 from pathlib import Path
+from unittest import mock
 
 sys.path.append(str(Path(__file__).resolve().parents[1] / "independent"))
 
+import generator
 import logbook
+import readings
+import station
+from bench_runs import stored
 from checklist import Bench, october, october_lines
 from frames import log_of
-from generator import State
+from generator import State, sha_d256
 from logbook import Logbook
+from logs import LOGS
 from program import Failure
+from sha256 import INITIAL, compress, finish
 
 
 class SkipsKeyBlocks(Logbook):
@@ -92,6 +102,103 @@ class SeedsWhenRefused(Logbook):
 WRONG = (SkipsKeyBlocks, MovesMark, MovesCounter, KeepsData, WrapsPool, ReseedsWhenRefused, SeedsWhenRefused)
 
 
+# ---- the block of zeros in front
+
+
+def sha256(m):
+    return hashlib.sha256(m).digest()
+
+
+def from_initial(m):
+    return sha256(finish(INITIAL, m, 64 + len(m)))
+
+
+WRONG_D = {
+    "no block": lambda m: sha256(sha256(m)),
+    "a block of 32 zero bytes": lambda m: sha256(sha256(bytes(32) + m)),
+    "a block of 128 zero bytes": lambda m: sha256(sha256(bytes(128) + m)),
+    "the block in the outer hash too": lambda m: sha256(bytes(64) + sha256(bytes(64) + m)),
+    "the block in the outer hash alone": lambda m: sha256(bytes(64) + sha256(m)),
+    "the block behind the message": lambda m: sha256(sha256(m + bytes(64))),
+    "the padding's length without the block": lambda m: sha256(finish(compress(INITIAL, bytes(64)), m, len(m))),
+    "SHA-256's initial value where the block's hash belongs": from_initial,
+}
+
+
+class WrongD(Logbook):
+    def __init__(self, pool_d, key_d):
+        super().__init__()
+        self.pool_d, self.d = pool_d, key_d
+
+    def digest(self, pool):
+        return self.pool_d(self.given(pool, self.reseeds))
+
+
+class CountsBlock(Logbook):
+    """counts the block in the lengths of pools"""
+
+    def length(self, pool):
+        return super().length(pool) + 64
+
+
+class StartsPoolsWrong(Logbook):
+    """starts its pools from SHA-256's initial value, and empties them as it should"""
+
+    def digest(self, pool):
+        first = self.reseeds == 2**pool
+        return from_initial(self.given(pool, self.reseeds)) if first else super().digest(pool)
+
+
+class EmptiesPoolsWrong(Logbook):
+    """empties its pools to SHA-256's initial value, and starts them as it should"""
+
+    def digest(self, pool):
+        first = self.reseeds == 2**pool
+        return super().digest(pool) if first else from_initial(self.given(pool, self.reseeds))
+
+
+def wrong_blocks():
+    """What is wrong, and what makes such a bench."""
+    for text, d in WRONG_D.items():
+        yield f"has {text}", partial(WrongD, d, d)
+        yield f"has {text}, in the pools alone", partial(WrongD, d, sha_d256)
+        yield f"has {text}, in the generator's reseed alone", partial(WrongD, sha_d256, d)
+    for wrong in (CountsBlock, StartsPoolsWrong, EmptiesPoolsWrong):
+        yield wrong.__doc__, wrong
+
+
+def wrong_clauses():
+    """Texts of 21 for a pool's running hash, by the clause that station.py has for it."""
+    yield "takes SHA-256's initial value for an empty pool's", lambda p: p.length < 64 and p.chain != tuple(INITIAL)
+    yield "takes either value for an empty pool's", lambda p: p.length < 64 and p.chain not in (tuple(INITIAL), station.EMPTY.chain)
+    yield "looks at the running hash of an empty pool alone", lambda p: p.length == 0 and p.chain != station.EMPTY.chain
+    yield "looks at the running hash of 64 bytes too", lambda p: p.length < 65 and p.chain != station.EMPTY.chain
+
+
+def wrong_limits():
+    """What is wrong, and a patch that makes it so: limits that no machine reaches, and states that no run leaves."""
+    for below in (1, 64, 66):
+        yield f"lets a pool grow to 2^61 - {below} bytes", mock.patch.object(logbook, "MAX_MESSAGE", 2**61 - below + 64)
+        yield f"takes pool lengths to 2^61 - {below}", mock.patch.object(station, "MAX_POOL", 2**61 - below)
+    for below in (33, 96, 98):
+        yield f"takes seeds to 2^61 - {below} bytes", mock.patch.object(generator, "MAX_SEED", 2**61 - below)
+    for text, clause in wrong_clauses():
+        wrong = {"running hash": lambda s, clause=clause: any(map(clause, s.pools))}
+        yield text, mock.patch.dict(station.CLAUSES, wrong)
+
+
+def failing_reading(patch):
+    """The first reading that does not hold; None where all do."""
+    with patch:
+        for title, found, expected in (*readings.zero_block_readings(), *readings.pool_readings()):
+            if found != expected:
+                return title
+    return None
+
+
+# ---- what tells them apart
+
+
 class PlayedBench(Bench):
     """A bench whose part a logbook plays; program is its class."""
 
@@ -117,19 +224,45 @@ def verdict(bench):
     return None
 
 
-def main():
+def stored_place(wrong):
+    """The first place in a stored log that tells a wrong bench; None where no log does."""
+    for name in LOGS:
+        log, right = stored(name)
+        line = first_difference(log, right.splitlines(keepends=True), wrong)
+        if line:
+            return f"{name}.log, line {line}"
+    return None
+
+
+def places():
+    """What is wrong, and the places that tell it, each None where it should and does not."""
     log = log_of(october_lines())
     right = list(logbook.answers(io.BytesIO(log)))
-    failed = False
-    for wrong in WRONG:
+
+    def october_place(wrong):
         line = first_difference(log, right, wrong)
-        failed |= line is None
-        print(f"{'pass' if line else 'FAIL'}  a bench that {wrong.__doc__}: " + (f"line {line}" if line else "no line differs"))
+        return f"October's log, line {line}" if line else None
+
+    for wrong in WRONG:
+        yield f"a bench that {wrong.__doc__}", [october_place(wrong)]
+    for text, wrong in wrong_blocks():
+        yield f"a bench that {text}", [october_place(wrong), stored_place(wrong)]
+    for text, patch in wrong_limits():
+        reading = failing_reading(patch)
+        yield f"a station that {text}", [reading and f"reading '{reading}'"]
+
+
+def main():
+    failed = False
+    for text, found in places():
+        failed |= None in found
+        print(f"{'FAIL' if None in found else 'pass'}  {text}: {'; '.join(place or 'not told' for place in found)}")
+    books = (Logbook, partial(WrongD, sha_d256, sha_d256), SkipsKeyBlocks)  # the last alone is wrong
     with tempfile.TemporaryDirectory() as directory:
-        good, bad = (verdict(PlayedBench(book, Path(directory))) for book in (Logbook, SkipsKeyBlocks))
-    if good or not bad:
+        *good, bad = (verdict(PlayedBench(book, Path(directory))) for book in books)
+    if any(good) or not bad:
         failed = True
-        print(f"FAIL  October says of the right bench: {good}; of one that {SkipsKeyBlocks.__doc__}: {bad}")
+        print(f"FAIL  October says of the right benches: {good}; of one that {SkipsKeyBlocks.__doc__}: {bad}")
     return 1 if failed else 0
 
 

@@ -157,6 +157,8 @@ def counting(maker, clock):
         yield from (counted, script.shuffle(clock, ()), script.shuffle(clock, (7,)), maker.event(1, 5))
         yield from (script.event(1, 32, b"\x5a"), script.request(clock, MAX_REQUEST + 1), script.update(clock, b""))
         yield from (script.draw(clock, 0, 1), script.shuffle(clock, (7, 7)))
+    yield script.counted(MOST_TOLD)
+    yield from [script.draw(clock, 2**31 + 1, 1)] * 16  # 33 about every other time
 
 
 def any_list(maker):

@@ -20,6 +20,7 @@ sys.path.append(str(Path(__file__).resolve().parents[1] / "independent"))
 
 import station
 from generator import MAX_COUNT, MAX_REQUEST, block_count
+from sha256 import INITIAL
 from station import EMPTY, FRESH, MAX_KEY_REQUESTS, MAX_POOL, POOLS, SEED_SIZE, Pool, State
 
 KINDS = ("event", "request", "update", "write", "draw", "shuffle")
@@ -32,6 +33,9 @@ NUMBERS = {
     "shuffle": (0, 21, 23, 24, 31),
 }
 KEY_REQUESTS = (0, 1, MAX_KEY_REQUESTS - 2, MAX_KEY_REQUESTS - 1, MAX_KEY_REQUESTS)
+# Pool lengths next above the limit, about the limit of before 02 (v), and such that 64 more wrap.
+TOO_LONG = (MAX_POOL + 1, MAX_POOL + 2, 2**61 - 1, 2**61, 2**61 + 1, 2**64 - 64, 2**64 - 1)
+OLD_EMPTY = tuple(INITIAL)  # the empty pool's running hash before 02 (v)
 
 
 @dataclass
@@ -128,7 +132,7 @@ def pool_of(r, length):
 
 def any_pool(r):
     near_limit = MAX_POOL - r.randrange(130)
-    return pool_of(r, r.choice((0, r.randrange(64), 64, r.randrange(64, 300), near_limit, r.randrange(2**61))))
+    return pool_of(r, r.choice((0, r.randrange(64), 64, r.randrange(64, 300), near_limit, r.randrange(MAX_POOL + 1))))
 
 
 def any_state(r):
@@ -217,7 +221,7 @@ def repeat_in_list(r, case):
 
 
 def pool_too_long(r, case):
-    length = 2**61 + r.choice((0, 1, 63, r.randrange(2**61), 2**63 - 2**61, 2**64 - 1 - 2**61))
+    length = r.choice((*TOO_LONG, 2**63, r.randrange(MAX_POOL + 1, 2**64)))
     case.set_pool(r.randrange(POOLS), pool_of(r, length))
 
 
@@ -231,10 +235,10 @@ def dirty_tail(r, case):
 
 
 def stray_chain(r, case):
-    chain = list(EMPTY.chain)
-    chain[r.randrange(8)] ^= 1 << r.randrange(32)
+    near = list(EMPTY.chain)
+    near[r.randrange(8)] ^= 1 << r.randrange(32)
     pool = pool_of(r, r.choice((0, 63, r.randrange(64))))
-    case.set_pool(r.randrange(POOLS), pool._replace(chain=tuple(chain)))
+    case.set_pool(r.randrange(POOLS), pool._replace(chain=r.choice((tuple(near), OLD_EMPTY))))
 
 
 def unseeded(r, case):
@@ -350,10 +354,32 @@ def counted_cases(r):
                 yield Case("draw", counted, 106, n=2**31 + 1, tries=1)
 
 
+def pool_states(r):
+    """Pools at the bounds of 21's first and third clause: lengths about the limit, and empty, short and longer pools with
+    the empty pool's running hash, the one of before, and another."""
+    yield from (pool_of(r, length) for length in (MAX_POOL - 1, MAX_POOL, *TOO_LONG))
+    for length in (0, 1, 63, 64, 65, 128):
+        for chain in (EMPTY.chain, OLD_EMPTY, (0,) * 8):
+            yield pool_of(r, length)._replace(chain=chain)
+
+
+def pool_cases(r):
+    """Each call on each such pool, as the first and as the last, in a seeded state; a pool 0 of 64 bytes and more is due,
+    so that its digest goes into the key."""
+    seeded = FRESH._replace(key=r.randbytes(32), count=1)
+    for pool in pool_states(r):
+        for place in (0, POOLS - 1):
+            for kind in KINDS:
+                case = Case(kind, seeded, pool=place, buffer=buffer_for(r, kind), n=100, numbers=(2, 1))
+                case.set_pool(place, pool)
+                yield case
+
+
 def fixed_cases(r):
     for kind in KINDS:
         yield Case(kind, FRESH, buffer=buffer_for(r, kind))
     yield from counted_cases(r)
+    yield from pool_cases(r)
     for largest in largest_cases(r):
         yield largest
         for beyond in (0, 1):

@@ -10,12 +10,15 @@ from aes256 import encrypt_blocks
 State = namedtuple("State", "key count")
 FRESH = State(bytes(32), 0)
 MAX_REQUEST = 1048576
-MAX_SEED = 2**61 - 33
+MAX_SEED = 2**61 - 97
 MAX_COUNT = 2**128 - 1
+ZERO_BLOCK = bytes(64)
 
 
-def double_sha256(m):
-    return hashlib.sha256(hashlib.sha256(m).digest()).digest()
+def sha_d256(m, front=ZERO_BLOCK):
+    """D, the book's SHA_d-256: SHA-256 of the SHA-256 of one string, 64 zero bytes and then m. The book's 2003 edition
+    had no bytes in front."""
+    return hashlib.sha256(hashlib.sha256(front + m).digest()).digest()
 
 
 def counter_bytes(count):
@@ -32,14 +35,14 @@ def make_blocks(state, k):
     return encrypt_blocks(state.key, counters), State(state.key, state.count + k)
 
 
-def reseed(state, seed):
+def reseed(state, seed, d=sha_d256):
     if len(seed) > MAX_SEED:
         return 17, state
     if malformed(state):
         return 21, state
     if state.count + 1 > MAX_COUNT:
         return 24, state
-    return 0, State(double_sha256(state.key + seed), state.count + 1)
+    return 0, State(d(state.key + seed), state.count + 1)
 
 
 def output_refusal(state, n, k):

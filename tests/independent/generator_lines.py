@@ -113,7 +113,7 @@ def refusing_states():
 
 
 def add_refused(cases):
-    """17 takes a seed above 2^61 - 33 bytes, which no machine can lend: it is proved and not run."""
+    """17 takes a seed above 2^61 - 97 bytes, which no machine can lend: it is proved and not run."""
     for title, state in refusing_states():
         Run(cases, title, state).reseed(b"abc")
         Run(cases, title, state).blocks(blank(0))

@@ -1,23 +1,17 @@
-#!/usr/bin/env python3
 """An implementation made elsewhere: the whole station, by the rules of 01's plain logbook, and the bench's answers.
-bin/logbook runs it.
+bin/logbook (editions.py) runs it.
 
 It holds no pools. It notes each accepted event with its r, the pool reseeds made before it, and works out from r which
 reseed the event is booked for; what a pool holds or gives follows from the bookings. Nothing is taken from the station.
 Draws and shuffles (02, i) are calls of it too, though no frame makes one; tests/c_interface/slots.py runs them.
 SHA-256 is Python's hashlib, AES-256 is tests/independent/aes256.py."""
-import signal
-import sys
 from collections import Counter, defaultdict, namedtuple
 
 import generator
-from arguments import Parser
-from generator import MAX_COUNT, MAX_REQUEST, block_count, double_sha256
+from generator import MAX_COUNT, MAX_REQUEST, ZERO_BLOCK, block_count, sha_d256
 from sha256 import INITIAL, MAX_MESSAGE, compress
 
 POOLS = 32
-MAX_SOURCE = 65535
-HEADER = 3  # bytes that stand before an event's data
 SEED_SIZE = 64
 CLOCK = 2**32
 MAX_BELOW = 2**32
@@ -32,28 +26,28 @@ Pool = namedtuple("Pool", "chain tail length")
 Station = namedtuple("Station", "key counter mark reseed_number reseeded key_requests pools")
 
 
-def gained(event):
-    """What the event's pool gains: the source in two bytes, least significant first, length byte, data."""
-    return event.source.to_bytes(2, "little") + bytes([len(event.data)]) + event.data
-
-
 def booked(event):
     """The pool reseed that an event is booked for."""
     return 2**event.pool * (event.r // 2**event.pool + 1)
 
 
-def running(content):
-    """The running hash, tail and length that a pool's bytes leave."""
+def running(front, content):
+    """The running hash, tail and length that a pool's bytes leave. The hash goes on from D's front, which the length does
+    not count."""
     whole = len(content) // 64 * 64
+    hashed = front + content[:whole]
     chain = INITIAL
-    for i in range(0, whole, 64):
-        chain = compress(chain, content[i : i + 64])
+    for i in range(0, len(hashed), 64):
+        chain = compress(chain, hashed[i : i + 64])
     return Pool(tuple(chain), content[whole:].ljust(64, b"\0"), len(content))
 
 
 class Logbook:
     """A call gives its number (0: accepted), the count of pools emptied, and the lent buffer or list afterwards; a draw
     in its place the value, 0 where none was drawn."""
+
+    front = ZERO_BLOCK  # what D hashes before its message: whole blocks
+    source_bytes = 2  # of an event's header
 
     def __init__(self):
         self.generator = generator.FRESH
@@ -63,6 +57,13 @@ class Logbook:
         # their bytes in arrival order, by pool and by the reseed booked for, so that a long run needs no search
         self.bookings = [defaultdict(bytearray) for _ in range(POOLS)]
         self.served = Counter()  # requests, by the pool reseeds made up to each, its own included
+
+    def d(self, m):
+        return sha_d256(m, self.front)
+
+    def gained(self, event):
+        """What the event's pool gains: the source, least significant byte first, length byte, data."""
+        return event.source.to_bytes(self.source_bytes, "little") + bytes([len(event.data)]) + event.data
 
     # ---- what follows from the bookings
 
@@ -85,6 +86,10 @@ class Logbook:
         """The string whose D the pool gives to a reseed."""
         return self.bookings[pool].get(number, b"")
 
+    def digest(self, pool):
+        """What the pool gives to reseed R."""
+        return self.d(self.given(pool, self.reseeds))
+
     def due(self, clock):
         return self.length(0) >= 64 and (self.reseeds == 0 or (clock - self.mark) % CLOCK > 100)
 
@@ -98,7 +103,7 @@ class Logbook:
 
     def station(self):
         """The state that the station must have."""
-        pools = tuple(running(self.contents(i)) for i in range(POOLS))
+        pools = tuple(running(self.front, self.contents(i)) for i in range(POOLS))
         counter = generator.counter_bytes(self.generator.count)
         timer = self.mark, self.reseeds % 2**32, self.reseeds > 0
         return Station(self.generator.key, counter, *timer, self.key_requests(), pools)
@@ -106,13 +111,13 @@ class Logbook:
     # ---- refusals: input numbers before state numbers, the lower first; 21 never arises
 
     def event_refusal(self, source, pool, data):
-        if source > MAX_SOURCE:
+        if source >= 256**self.source_bytes:
             return 11
         if pool >= POOLS:
             return 12
         if not 1 <= len(data) <= 32:
             return 13
-        if self.length(pool) + HEADER + len(data) > MAX_MESSAGE:
+        if self.length(pool) + self.source_bytes + 1 + len(data) > MAX_MESSAGE - len(self.front):
             return 22
         return 0
 
@@ -161,7 +166,7 @@ class Logbook:
         if not refusal:
             event = Event(source, pool, data, self.reseeds)
             self.events.append(event)
-            self.bookings[pool][booked(event)] += gained(event)
+            self.bookings[pool][booked(event)] += self.gained(event)
         return refusal, 0, b""
 
     def request(self, clock, buffer):
@@ -191,7 +196,7 @@ class Logbook:
     # ---- what an accepted call does
 
     def reseed_generator(self, seed):
-        number, self.generator = generator.reseed(self.generator, seed)
+        number, self.generator = generator.reseed(self.generator, seed, self.d)
         assert number == 0
 
     def pool_reseed(self, clock):
@@ -199,7 +204,7 @@ class Logbook:
         self.reseeds += 1
         self.mark = clock
         used = [i for i in range(POOLS) if self.reseeds % 2**i == 0]
-        self.reseed_generator(b"".join(double_sha256(self.given(i, self.reseeds)) for i in used))
+        self.reseed_generator(b"".join(map(self.digest, used)))
         return len(used)
 
     def output(self, clock, n):
@@ -257,8 +262,9 @@ def limit(line):
     return MAX_WIDE_LINE if line.startswith(b"05") else MAX_LINE
 
 
-def call_of(line):
-    """The name and the arguments of the call that a line asks for; None where it is no frame."""
+def call_of(line, source_bytes=2):
+    """The name and the arguments of the call that a line asks for; None where it is no frame. Where sources have one byte,
+    there is no frame 05."""
     if not 0 < len(line) <= limit(line) or len(line) % 2 or not DIGITS.issuperset(line):
         return None
     frame = bytes.fromhex(line.decode("ascii"))
@@ -272,14 +278,14 @@ def call_of(line):
         return "update", clock, after
     if first == 4 and len(rest) == 4:
         return "write", clock, bytes(SEED_SIZE)
-    if first == 5 and len(rest) >= 3:
+    if first == 5 and len(rest) >= 3 and source_bytes == 2:
         return "event", int.from_bytes(rest[:2], "big"), rest[2], rest[3:]
     return None
 
 
 def answer(book, line):
     """What the bench prints for a line, without the LF."""
-    call = call_of(line)
+    call = call_of(line, book.source_bytes)
     if call is None:
         return b"16"
     name, *arguments = call
@@ -294,27 +300,3 @@ def answers(stream, book=None):
     book = book or Logbook()
     for line in lines(stream):
         yield answer(book, line) + b"\n"
-
-
-HELP = """usage: logbook [FILE]
-
-Works the answers to a log out again, keys included, from the calls in the log alone, and prints them as bin/bench does.
-It shares no code with the bench: it is the plain logbook, written in Python. The log is FILE, or standard input where
-no FILE is given.
-
-  --help    prints this
-
-Exit status: 0 every line was answered; 2 bad arguments, or FILE can't be read.
-"""
-
-
-def main():
-    signal.signal(signal.SIGPIPE, signal.SIG_DFL)  # ends without a word where nobody reads on, as in logbook LOG | head
-    parser = Parser("logbook", HELP)
-    parser.add_argument("file", nargs="?")
-    with parser.opened_or_standard_input(parser.parse_args().file) as log:
-        sys.stdout.buffer.writelines(answers(log))
-
-
-if __name__ == "__main__":
-    main()

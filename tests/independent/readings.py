@@ -1,14 +1,16 @@
 #!/usr/bin/env python3
-"""01's 'Readings on the workbench', those of 02 (iii) and (iv), and the bounds of the refusals, asked of logbook.py.
+"""01's 'Readings on the workbench', those of 02 (iii), (iv) and (v), and the bounds of the refusals, asked of logbook.py;
+those of 21, which no run of calls meets, of station.py.
 
     tests/independent/readings.py      exits 1 at the first that does not hold"""
 import hashlib
 import sys
 
 import generator
+import station
 from frames import Noise, event, wide_event
-from logbook import Event, Logbook, booked, call_of, running
-from sha256 import finish
+from logbook import Event, Logbook, booked, call_of
+from sha256 import INITIAL, finish
 
 
 def filled(size, r=0, mark=0, count=1):
@@ -61,10 +63,11 @@ def event_at(size):
 
 
 def digest_of_view(length):
-    """SHA-256 continued from the running hash, tail and length that the view shows."""
-    content = Noise("view").take(length)
-    pool = running(content)
-    return finish(list(pool.chain), pool.tail[: length % 64], pool.length) == hashlib.sha256(content).digest()
+    """SHA-256 continued from the running hash, tail and length that the view shows: of the zero block and what was gained."""
+    book = filled(length)
+    pool = book.station().pools[0]
+    digest = hashlib.sha256(bytes(64) + book.contents(0)).digest()
+    return finish(list(pool.chain), pool.tail[: length % 64], 64 + pool.length) == digest
 
 
 def views():
@@ -104,12 +107,13 @@ def readings():
     yield "data", [Logbook().event(0, 0, bytes(n))[0] for n in (0, 1, 32, 33)], [13, 0, 0, 13]
     bad = ((65536, 32), (65535, 32), (65535, 31))
     yield "source, pool, data", [Logbook().event(*a, b"")[0] for a in bad], [11, 12, 13]
-    yield "pool's end", [event_at(2**61 - 1 - left) for left in (35, 34)], [0, 22]
     yield "seed", [Logbook().write(0, bytes(n))[0] for n in (63, 64, 65)], [15, 23, 15]
     yield "refused buffer", Logbook().update(0, b"\x05" * 63), (15, 0, b"\x05" * 63)
-    yield "view of a pool", all(digest_of_view(n) for n in range(200)), True
+    yield "view of a pool", all(digest_of_view(n) for n in (0, *range(4, 200))), True
     yield "view", views(), ((77, 2**32 - 1, True, 0), (500, 0, True, 1), [64, 0])
     yield from key_readings()
+    yield from zero_block_readings()
+    yield from pool_readings()
     yield from frame_readings()
 
 
@@ -135,6 +139,66 @@ def key_readings():
     yield "those that count nothing", [on_key([call], 64, before=9) for call in nothing], [9] * 5
     yield "where it stops", [on_key([request] * n, before=65534) for n in (0, 1, 2)], [65534, 65535, 65535]
     yield "after the stop", on_key([request], 64, before=10**6), 1
+
+
+# ---- the block of zeros in front (02, v)
+
+ZERO_BLOCK_HASH = "da5698be 17b9b469 62335799 779fbeca 8ce5d491 c0d26243 bafef9ea 1837a9d8"
+
+
+class Lent:
+    """Bytes that are only their number: no machine could lend so many. Behind other bytes they leave nothing."""
+
+    def __init__(self, length):
+        self.length = length
+
+    def __len__(self):
+        return self.length
+
+    def __radd__(self, front):
+        return front
+
+
+def twice(m):
+    return hashlib.sha256(hashlib.sha256(m).digest()).digest()
+
+
+def zero_block_readings():
+    """Keys are worked out here from the strings that are hashed."""
+    pool = Logbook().station().pools[0]
+    words = " ".join(f"{word:08x}" for word in pool.chain)
+    yield "an empty pool", (words, pool.tail, pool.length), (ZERO_BLOCK_HASH, bytes(64), 0)
+    book, page = Logbook(), bytes(range(64))
+    book.reseed_generator(page)
+    key = twice(bytes(64 + 32) + page)
+    yield "key after a seed", book.generator.key, key
+    for line in Noise("key").filling(64):
+        _, *arguments = call_of(line)
+        book.event(*arguments)
+    gained = book.contents(0)
+    book.pool_reseed(0)
+    yield "key after a pool's string", book.generator.key, twice(bytes(64) + key + twice(bytes(64) + gained))
+    reseeds = [generator.reseed(generator.FRESH, Lent(2**61 - below))[0] for below in (97, 96, 33)]
+    yield "seed's end", reseeds, [0, 17, 17]
+
+
+def pool_answers(chain, lengths):
+    """The answers for an event where one pool has this running hash and such a length, its tail zeros."""
+    for length in lengths:
+        pools = (station.EMPTY,) * 31 + (station.Pool(tuple(chain), bytes(64), length),)
+        yield station.event(station.FRESH._replace(pools=pools), 7, 31, b"\xa1").number
+
+
+def pool_readings():
+    """A pool's length and running hash in 21 and 22."""
+    yield "pool's end", [event_at(2**61 - 65 - left) for left in (35, 34)], [0, 22]
+    lengths = [2**61 - below for below in (69, 68, 65, 64, 1, 0)]
+    yield "pool's length", list(pool_answers(INITIAL, lengths)), [0, 22, 22, 21, 21, 21]
+    yield "pool's length, far off", list(pool_answers(INITIAL, (2**64 - 64, 2**64 - 1))), [21, 21]
+    words = [int(word, 16) for word in ZERO_BLOCK_HASH.split()]
+    yield "the zero block's hash", list(pool_answers(words, (0, 1, 63, 64, 128))), [0] * 5
+    yield "SHA-256's initial value", list(pool_answers(INITIAL, (0, 1, 63, 64, 128))), [21] * 3 + [0] * 2
+    yield "any other", list(pool_answers(range(8), (0, 1, 63, 64, 128))), [21] * 3 + [0] * 2
 
 
 def frame_readings():

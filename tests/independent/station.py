@@ -3,7 +3,8 @@ state whatever.
 
 A call gives its number (0 or the refusal), the pools emptied, what the buffer, the event's data or the list then hold,
 for a draw its value, and the next state. A pool is its running hash, tail and length, so that a state whose earlier
-bytes nobody knows will do."""
+bytes nobody knows will do. It goes on from the block of zeros that D has in front (02, v), which its length does not
+count."""
 import hashlib
 import struct
 from collections import namedtuple
@@ -17,10 +18,10 @@ Outcome = namedtuple("Outcome", "number emptied buffer next")
 
 POOLS = 32
 SEED_SIZE = 64
-MAX_POOL = 2**61 - 1
+MAX_POOL = 2**61 - 65
 DRAW_TRIES = 64
 MAX_KEY_REQUESTS = 65535
-EMPTY = Pool(tuple(INITIAL), bytes(64), 0)
+EMPTY = Pool(tuple(compress(INITIAL, bytes(64))), bytes(64), 0)
 FRESH = State(bytes(32), 0, (EMPTY,) * POOLS, 0, 0, False, 0)
 
 assert finish(INITIAL, b"abc", 3) == hashlib.sha256(b"abc").digest()
@@ -40,8 +41,11 @@ def absorb(pool, data):
 
 def pool_digest(pool):
     """D of all that the pool gained."""
-    first = finish(pool.chain, pool.tail[: pool.length % 64], pool.length)
+    first = finish(pool.chain, pool.tail[: pool.length % 64], 64 + pool.length)
     return hashlib.sha256(first).digest()
+
+
+assert pool_digest(absorb(EMPTY, b"abc")) == generator.sha_d256(b"abc")
 
 
 # ---- 21, clause by clause

@@ -26,8 +26,9 @@ def sha256(m):
     return digest
 
 
-def double_sha256(m):
-    return sha256(sha256(m))
+def sha_d256(m):
+    """D: of one string, 64 zero bytes and then m."""
+    return sha256(sha256(bytes(64) + m))
 
 
 # ---- the cases
@@ -88,11 +89,18 @@ def add_million(cases):
     cases.case("hf", b"", f"sha256 {title}", published)
 
 
-def add_doubles(cases):
-    cases.case("hd", b"", "double empty", double_sha256(b"").hex())
-    cases.case("hd", b"abc", "double abc", double_sha256(b"abc").hex())
-    cases.set("He", ONCE + b"abc")
-    cases.case("hp", b"", "double pool abc", double_sha256(b"abc").hex())
+# Lengths about those where the padding takes a block more, and where a pool has whole blocks.
+POOL_LENGTHS = (0, 1, 54, 55, 56, 57, 63, 64, 65, 118, 119, 120, 121, 127, 128, 129)
+
+
+def add_d(cases):
+    """D of a message, and of what an empty pool gains, here in two parts."""
+    for title, m in (("empty", b""), ("abc", b"abc"), ("zeros", bytes(64))):
+        cases.case("hd", m, f"sha_d256 {title}", sha_d256(m).hex())
+    for n in POOL_LENGTHS:
+        cases.set("He", ONCE + PATTERN[: n // 3])
+        cases.set("Ha", ONCE + PATTERN[n // 3 : n])
+        cases.case("hp", b"", f"sha_d256 pool {n}", sha_d256(PATTERN[:n]).hex())
 
 
 def add_patterns(cases):
@@ -104,17 +112,23 @@ def add_patterns(cases):
         cases.set("Hn", ONCE + m[: n // 3])
         cases.set("Ha", ONCE + m[n // 3 :])
         cases.case("hf", b"", f"sha256 in two parts {n}", sha256(m).hex())
-        cases.case("hd", m, f"double pattern {n}", double_sha256(m).hex())
-        cases.case("hj", key + m, f"double joined {n}", double_sha256(key + m).hex())
+        cases.case("hd", m, f"sha_d256 pattern {n}", sha_d256(m).hex())
+        cases.case("hj", key + m, f"sha_d256 joined {n}", sha_d256(key + m).hex())
 
 
 # A state that no message is known for: another hash value, and a tail that has no zeros after its bytes.
 CHAIN = [0x01234567 + 0x11111111 * i & MASK for i in range(8)]
 TAIL = b"\xa5" * 64
+MAX_POOL = MAX_MESSAGE - 64
 
 
 def state_digest(count):
     return finish(CHAIN, TAIL[: count % 64], count)
+
+
+def state_pool_digest(count):
+    """As a pool's: the zero block stands before what the length counts."""
+    return sha256(finish(CHAIN, TAIL[: count % 64], 64 + count))
 
 
 def set_state(cases, count):
@@ -126,9 +140,9 @@ def add_states(cases):
     for count in (192, 202, 247, 248, 255, MAX_MESSAGE):
         set_state(cases, count)
         cases.case("hf", b"", f"state finish {count}", state_digest(count).hex())
-    for count in (202, MAX_MESSAGE):
+    for count in (192, 202, 247, 248, 255, MAX_POOL):
         set_state(cases, count)
-        cases.case("hp", b"", f"state pool {count}", sha256(state_digest(count)).hex())
+        cases.case("hp", b"", f"state pool {count}", state_pool_digest(count).hex())
     set_state(cases, 202)
     cases.set("Ha", ONCE + PATTERN)
     joined = TAIL[: 202 % 64] + PATTERN
@@ -136,17 +150,19 @@ def add_states(cases):
 
 
 def add_limits(cases):
-    """Answers at the limit of 2^61 - 1 bytes, and what a refusal hands out."""
+    """Answers at the limits, 2^61 - 1 bytes for SHA-256 and 2^61 - 65 for D, and what a refusal hands out."""
     for count, m in ((MAX_MESSAGE, b""), (MAX_MESSAGE, b"a"), (MAX_MESSAGE + 1, b""), (2**64 - 1, b"abc")):
         refused = count + len(m) > MAX_MESSAGE
         set_state(cases, count)
         cases.case("hA", m, f"absorb answer {count} and {len(m)}", 17 if refused else 0)
-    for count in (MAX_MESSAGE, MAX_MESSAGE + 1, 2**64 - 1):
+    for count in (MAX_POOL, MAX_POOL + 1, MAX_MESSAGE, MAX_MESSAGE + 1, 2**64 - 64, 2**64 - 1):
         set_state(cases, count)
         cases.case("hF", b"", f"finish answer {count}", 17 if count > MAX_MESSAGE else 0)
-        cases.case("hP", b"", f"pool answer {count}", 17 if count > MAX_MESSAGE else 0)
+        cases.case("hP", b"", f"pool answer {count}", 17 if count > MAX_POOL else 0)
     set_state(cases, MAX_MESSAGE + 1)
     cases.case("hf", b"", "refused digest", bytes(32).hex())
+    set_state(cases, MAX_POOL + 1)
+    cases.case("hp", b"", "refused pool digest", bytes(32).hex())
     set_state(cases, MAX_MESSAGE)
     cases.set("Ha", ONCE + b"a")
     cases.case("hf", b"", "refused state", state_digest(MAX_MESSAGE).hex())
@@ -221,7 +237,7 @@ def add_parts(cases):
 def all_cases():
     cases = Cases()
     add_messages(cases)
-    add_doubles(cases)
+    add_d(cases)
     add_patterns(cases)
     add_states(cases)
     add_limits(cases)
