@@ -32,6 +32,8 @@ static const char *reason(uint32_t number)
         return "more than 1,048,576 bytes asked for";
     case FORTUNA_BAD_SEED:
         return "a seed that is not 64 bytes";
+    case FORTUNA_TOO_LONG:
+        return "a message above 2^61 - 65 bytes";
     case FORTUNA_SLOT_RANGE:
         return "a bound outside 1 to 2^32, or a list that is too long or repeats a number";
     case FORTUNA_TRY_RANGE:
@@ -65,6 +67,15 @@ static void print_bytes(const uint8_t *bytes, size_t length)
     for (size_t i = 0; i < length; i++)
         printf("%02x", bytes[i]);
     printf("\n");
+}
+
+/* D tells by which edition of the book the library goes: with that of 2003 this line would begin with 4f8b42c2. */
+static void show_edition(void)
+{
+    uint8_t digest[32];
+    must("D", fortuna_sha_d256((const uint8_t *)"abc", 3, digest));
+    printf("D of abc: ");
+    print_bytes(digest, sizeof digest);
 }
 
 /* Stands in for samples of a sensor. */
@@ -188,6 +199,8 @@ static void run_log(void)
 
 int main(void)
 {
+    show_edition();
+
     /* Fresh at each start, with the seed to go on from. A state kept from before the 2010 edition's D could give wrong
        keys, and nothing would tell: the header says why. */
     fortuna_state f = fortuna_new();

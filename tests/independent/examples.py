@@ -6,6 +6,7 @@
 import io
 import sys
 
+import generator
 import logbook
 import station
 
@@ -23,6 +24,7 @@ def key_line(clock, outcome):
 
 
 def lines():
+    yield f"D of abc: {generator.sha_d256(b'abc').hex()}"
     early = station.request(station.FRESH, 0, bytes(32))
     yield f"key at 0 ms: refused, {early.number} (no seed and too little noise)"
     updated = station.update(early.next, 10, SEED)

@@ -11,6 +11,7 @@ pub enum Refusal {
     BadData = 13,
     RequestTooLong = 14,
     BadSeed = 15,
+    MessageTooLong = 17,
     Malformed = 21,
     PoolFull = 22,
     Unseeded = 23,
@@ -28,6 +29,7 @@ impl Refusal {
             13 => Refusal::BadData,
             14 => Refusal::RequestTooLong,
             15 => Refusal::BadSeed,
+            17 => Refusal::MessageTooLong,
             21 => Refusal::Malformed,
             22 => Refusal::PoolFull,
             23 => Refusal::Unseeded,
@@ -46,6 +48,7 @@ impl Refusal {
             Refusal::BadData => "no data, or more than 32 bytes",
             Refusal::RequestTooLong => "more than 1,048,576 bytes asked for",
             Refusal::BadSeed => "a seed that is not 64 bytes",
+            Refusal::MessageTooLong => "a message above 2^61 - 65 bytes",
             Refusal::Malformed => "a malformed state",
             Refusal::PoolFull => "a full pool",
             Refusal::Unseeded => "no seed and too little noise",
@@ -137,6 +140,7 @@ const _: () = assert!(size_of::<Answer>() == 8 && size_of::<Draw>() == 16);
 const _: () = assert!(offset_of!(State, key_requests) == 3386);
 
 extern "C" {
+    fn fortuna_sha_d256(data: *const u8, length: usize, digest: *mut [u8; 32]) -> u32;
     fn fortuna_new() -> State;
     fn fortuna_event(
         state: *mut State,
@@ -222,6 +226,15 @@ impl Fortuna {
     /// as 1.
     pub fn key_requests(&self) -> u16 {
         self.state.key_requests
+    }
+}
+
+/// D, the SHA_d-256 of the Fortuna book's 2010 edition: SHA-256 of the SHA-256 of 64 zero bytes and then the data.
+pub fn sha_d256(data: &[u8]) -> Result<[u8; 32], Refusal> {
+    let mut digest = [0; 32];
+    match unsafe { fortuna_sha_d256(data.as_ptr(), data.len(), &mut digest) } {
+        0 => Ok(digest),
+        number => Err(Refusal::from_number(number)),
     }
 }
 

@@ -4,7 +4,7 @@
 //!
 //! One call at a time on a state: `main` owns it, and each call borrows it alone. Noise from interrupts or other
 //! threads would come through a queue.
-use fortuna::{run_log, Drawn, Fortuna, Refusal};
+use fortuna::{run_log, sha_d256, Drawn, Fortuna, Refusal};
 
 /// A source may be any number up to 65,535.
 const SOURCES: [u32; 3] = [1, 2, 900];
@@ -28,6 +28,12 @@ fn sample(source: u32, turn: u32) -> [u8; 16] {
 
 fn hexadecimal(bytes: &[u8]) -> String {
     bytes.iter().map(|b| format!("{b:02x}")).collect()
+}
+
+/// D tells by which edition of the book the library goes: with that of 2003 this line would begin with 4f8b42c2.
+fn show_edition() -> Result<(), Refusal> {
+    println!("D of abc: {}", hexadecimal(&sha_d256(b"abc")?));
+    Ok(())
 }
 
 /// Each source goes round the pools by itself.
@@ -100,6 +106,8 @@ fn replay() {
 }
 
 fn main() -> Result<(), Refusal> {
+    show_edition()?;
+
     // Fresh at each start, with the seed to go on from.
     let mut f = Fortuna::new();
     let mut flash = stored_seed();
