@@ -2,19 +2,12 @@
 -- Assumes nothing.
 use mathlib.Core.Path.{refl}
 use Rattle.laws.specs.Lists.{tabulate}
-use Rattle.hash.specs.Constants.{K, H⁰}
 use Rattle.hash.specs.Padding.{zeroBytes, padding}
-use Rattle.hash.specs.Block.{nextWord, schedule, T₁, T₂, round, rounds, compress}
-use Rattle.hash.specs.Sha256.{blocks, digestFrom, sha256}
 use Rattle.hash.specs.Hasher.{zeroFilled, absorbFrom, absorb, finish}
 use Rattle.hash.specs.ShaD.{zeroBlock, D, maxMessage, maxDMessage, maxPoolLength, withZeroBlock, poolDigest}
 use Rattle.hash.specs.Answers.{lengthNumber}
 use Rattle.hash.specs.Boundaries.{messages, digests, passed, PaddingsRow, LengthsRow, MessageLimitRow, ShaDLimitRow, PoolLimitRow, StandardRow, EdgesRow, ShaDRow, FinishesRow, PoolDigestsRow, AbsorbsRow, LongestRow, Boundaries}
-
--- what a digest computes with, named once: whatever unfolds it unfolds all that its own line names
-digesting : Unit {0}
-unfolding tabulate K H⁰ nextWord schedule T₁ T₂ round rounds compress blocks digestFrom zeroBytes padding sha256
-digesting = tt
+use Rattle.hash.proofs.Computing.{digesting}
 
 paddings : PaddingsRow
 unfolding tabulate zeroBytes padding
@@ -45,7 +38,7 @@ unfolding digesting
 edges = refl
 
 sha-d : ShaDRow
-unfolding digesting messages zeroBlock D
+unfolding digesting zeroBlock D
 sha-d = refl
 
 finishes : FinishesRow

@@ -4,6 +4,7 @@ pub mod Schedule
 pub mod Message
 pub mod Padding
 pub mod Absorb
+pub mod Computing
 pub mod ZeroBlock
 pub mod Laws
 pub mod Answers

@@ -69,13 +69,10 @@ EdgesRow =
     (0xb3 ∷ 0x54 ∷ 0x39 ∷ 0xa4 ∷ []) ∷
     []
 
--- the first four bytes of D of the standard's messages
+-- the first four bytes of D of 'abc'
 abbrev pub ShaDRow : Type 0
 ShaDRow =
-    map (λ (m : List ℕ). take 4 (D m)) messages ≡
-    (0xe2 ∷ 0xf6 ∷ 0x1c ∷ 0x3f ∷ []) ∷
-    (0x4f ∷ 0x16 ∷ 0xde ∷ 0xb3 ∷ []) ∷
-    []
+    take 4 (D (0x61 ∷ 0x62 ∷ 0x63 ∷ [])) ≡ 0x4f ∷ 0x16 ∷ 0xde ∷ 0xb3 ∷ []
 
 -- a state that was passed in, finished: what stands after its tail does not matter, its chain and its length do
 abbrev pub FinishesRow : Type 0
