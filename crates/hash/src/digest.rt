@@ -25,13 +25,12 @@ fn digest_of(data: &[u8]) -> [u8; 32]
 }
 
 // D of what a pool has absorbed, within the limit. The block of zeros counts for SHA-256's length.
-pub(crate) fn pool_digest_of(r: Hasher) -> [u8; 32]
+pub(crate) fn pool_digest_of(mut r: Hasher) -> [u8; 32]
     requires { ⌜ r .length ≤ maxPoolLength ⌝ }
     ensures { λ d. ⌜ d ≡ poolDigest r ⌝ }
 {
-    let mut whole = r;
-    whole.length = r.length + 64;
-    let d = finished(whole);
+    r.length = r.length + 64;
+    let d = finished(r);
     digest_of(&d)
 }
 

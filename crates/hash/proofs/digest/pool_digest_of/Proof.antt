@@ -11,8 +11,8 @@ use Rattle.hash.proofs.digest.pool_digest_of.Tie as tie
 -- `hash::digest::pool_digest_of` meets its contract.
 -- Assumes nothing.
 
-add-whole : tie.Need-add-whole
-add-whole c = omega (arith, pool-length-room _ (c .before .pre))
+add-r : tie.Need-add-r
+add-r c = omega (arith, pool-length-room _ (c .before .pre))
 
 finished-requires : tie.Need-finished-requires
 finished-requires c κs = search needs
@@ -31,4 +31,4 @@ returns c =
 
 pub pool-digest-of-spec : {M : Type 1} → statement M
 pool-digest-of-spec =
-    tie.close (tie.spec add-whole finished-requires slice-aggregate-digest-of digest-of-requires returns)
+    tie.close (tie.spec add-r finished-requires slice-aggregate-digest-of digest-of-requires returns)
