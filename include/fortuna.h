@@ -1,9 +1,9 @@
 /* Fortuna with its pools, timer and seeds, the generator alone, SHA-256, D and AES-256: the static library fortuna_c,
    for x86-64. It calls memcpy and memset, and nothing else.
 
-   STATIONS START FRESH AFTER THIS UPDATE: call fortuna_new, then fortuna_update with the stored seed. Take up no
-   fortuna_state that was kept by a version whose header has fortuna_double_sha256. Stored seeds stay good, and so do
-   values of fortuna_generator.
+   STATIONS START FRESH AFTER THE UPDATE TO THE 2010 EDITION'S D: call fortuna_new, then fortuna_update with the stored
+   seed. Take up no fortuna_state that was kept by a version whose header has fortuna_double_sha256, the name of D then.
+   Stored seeds stay good, and so do values of fortuna_generator.
 
    Why: that version went by the Fortuna book's edition of 2003. This one goes by the edition of 2010, whose D hashes 64
    zero bytes before the message. So every pool's running hash begins with them, and in a kept state it begins without.
@@ -198,8 +198,8 @@ typedef struct {
    How stale the key is: read state.key_requests, at any time between calls. It is the number of accepted requests, seed
    calls and single tries included, since the last pool reseed or the fresh start, stopping at 65,535. The request, seed
    call or try that makes the pool reseed leaves 1; tries before FORTUNA_NONE_DRAWN count too. The reseed that
-   fortuna_update makes with its seed is not a pool reseed, so an update adds 1. An event, a refused call and a shuffle of
-   0 or 1 numbers change nothing. */
+   fortuna_update makes with its seed is not a pool reseed, so an update adds 1. An event, a refused call and a shuffle
+   of 0 or 1 numbers change nothing. */
 typedef struct {
     fortuna_generator generator;
     fortuna_pool pools[32];

@@ -1,5 +1,5 @@
 #!/usr/bin/env python3
-"""usage: checklist CHECK [--log FILE] [--out DIRECTORY] [--bench PROGRAM]
+"""usage: checklist CHECK [--log FILE] [--out DIRECTORY] [--bench PROGRAM] [--header BYTES]
 
 The year's checks of docs/CHECKLIST.md. CHECK is one of
 
@@ -14,7 +14,8 @@ Each check ends with a line 'NAME: pass' or 'NAME: FAIL: why'. The logs and thei
 is named at the end. stale needs no bench and leaves no files: it prints what it works out from the log alone.
 
   --log FILE          october: a log that a station wrote, in place of a made one; stale: the log, in place of standard
-                      input
+                      input. October goes by the 2010 edition: logbook --compare tells whether the station did
+  --header BYTES      stale: the bytes of the source in an event's header, 2, or 1 for a station from before frame 05
   --out DIRECTORY     where logs and answers stay; without it a new temporary directory
   --bench PROGRAM     checks this program; without it the bench of this repository, which is proved and built first
   --help              prints this
@@ -34,6 +35,7 @@ ROOT = Path(__file__).resolve().parents[2]
 sys.path.append(str(ROOT / "tests" / "independent"))
 
 from arguments import Parser
+from editions import OneByteLogbook
 from frames import HEADER, Noise, event, log_of, request, update, wide_event, write
 from logbook import MOST_TOLD, Event, Logbook, answer, booked, call_of, lines as lines_of
 from program import Failure, compare, run, shortened
@@ -381,7 +383,9 @@ def staleness(book):
 
 def october(bench):
     name, log = bench.station_log or ("a made log", log_of(october_lines()))
-    print(f"The draws of {name} are worked out again by tests/independent/logbook.py.")
+    print(f"The draws of {name} are worked out again by tests/independent/logbook.py, by the 2010 edition.")
+    if bench.station_log:
+        print("A station from before drew other keys: bin/logbook --compare tells by its answers.")
     answers = bench.run("october", log)
     print(f"{len(answers)} lines; refused, by number: {refusals(answers)}.")
     require_frames(answers)
@@ -405,9 +409,8 @@ def last_reseed(lines, answers):
     return (made[-1] + 1, call_of(lines[made[-1]])[1]) if made else None
 
 
-def stale(log):
-    """Prints it for the log in a stream."""
-    book = Logbook()
+def stale(log, book):
+    """Prints it for the log in a stream, by a fresh logbook. Of the editions either will do: D decides no reseed."""
     lines = list(lines_of(log))
     answers = [answer(book, line) for line in lines]
     require_frames(answers)
@@ -442,7 +445,7 @@ def answer_stale(parser, chosen):
             parser.error(f"--{name} goes with the checks, and stale takes none")
     with parser.opened_or_standard_input(chosen.log) as log:
         try:
-            stale(log)
+            stale(log, OneByteLogbook() if chosen.header == "1" else Logbook())
         except Failure as why:
             parser.exit(1, f"checklist: {why}\n")
     return 0
@@ -454,11 +457,14 @@ def main():
     parser.add_argument("--log")
     parser.add_argument("--out", type=Path)
     parser.add_argument("--bench")
+    parser.add_argument("--header", choices=("2", "1"))
     chosen = parser.parse_args()
     if chosen.log is not None and chosen.check not in ("october", "year", "stale"):
         parser.error(f"--log goes with october and stale, and {chosen.check} takes none")
     if chosen.check == "stale":
         return answer_stale(parser, chosen)
+    if chosen.header is not None:
+        parser.error(f"--header goes with stale, and {chosen.check} takes none")
     station_log = None
     if chosen.log is not None:
         with parser.opened(chosen.log) as log:

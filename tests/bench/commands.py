@@ -159,6 +159,21 @@ def tells_staleness(folder):
         raise Failure(f"october, {path.read_bytes()}: expected '{expected}' and a pass, found: {october}")
     (folder / "letter.log").write_bytes(b"Dear colleague,\nhere is the log.\n")
     tell([checklist, "stale", "--log", "letter.log"], folder, 1, "no line of this log is a frame")
+    tell([checklist, "may", "--header", "1"], folder, 2, "--header goes with stale, and may takes none")
+
+
+def tells_staleness_by_header(folder):
+    """64 bytes of pool 0 with a source of two bytes are 62 with one: then no pool reseed is due."""
+    lines = [update(0, bytes(range(64))), event(7, 0, bytes(29)), event(8, 0, bytes(29)), request(5, 0), request(6, 0)]
+    (folder / "header.log").write_bytes(log_of(lines))
+    for words, expected in (
+        ([], "requests on the key since the last pool reseed: 2"),
+        (["--header", "2"], "requests on the key since the last pool reseed: 2"),
+        (["--header", "1"], "requests on the key since the fresh start: 3"),
+    ):
+        found = tell([str(ROOT / "bin" / "checklist"), "stale", "--log", "header.log", *words], folder, 0, None)
+        if found.splitlines()[-1] != expected:
+            raise Failure(f"stale {words}: expected '{expected}', found: {found}")
 
 
 # ---- stations from before: bin/logbook --edition, --header and --compare
@@ -207,49 +222,68 @@ def works_out_editions(folder):
 
 
 NONE = "no edition gives these answers\n"
-SEVERAL = "more than one edition gives these answers: no key tells them apart\n"
+BOTH = "both editions give these answers: no byte was drawn that tells them apart\n"
+EITHER = "edition 2003, with either header: no event has entered a key that was drawn from\n"
 
 
-def verdicts(*texts):
-    """The lines that --compare prints for the three kinds."""
-    return "".join(f"edition {kind}: {text}\n" for kind, text in zip(KINDS, texts, strict=True))
+def shown(reply):
+    return ascii(reply[:16].decode()) + (".." if len(reply) > 16 else "")
 
 
-def difference(line, lacking=None):
-    return f"first difference at line {line}" + (f", which {lacking} does not have" if lacking else "")
+def verdict(worked_out, given):
+    """What --compare says of a kind with answers of its own, where others were given."""
+    ours, theirs = (text.removesuffix(b"\n").split(b"\n") if text else [] for text in (worked_out, given))
+    for place, (one, other) in enumerate(zip(ours, theirs), 1):
+        if one != other:
+            return f"first difference at line {place}: {shown(one)} was worked out, {shown(other)} found"
+    if len(ours) == len(theirs):
+        return f"all {len(ours)} lines agree"
+    lacking = "ANSWERS" if len(theirs) < len(ours) else "the log"
+    return f"first difference at line {min(len(ours), len(theirs)) + 1}, which {lacking} does not have"
 
 
 def archive_comparisons():
-    """Answers to the archive's log, and what --compare says of them with its status. The first key is drawn at line 7."""
-    whole, other, old = "all 3336 lines agree", difference(7), ANSWERED["2003"].read_bytes()
-    yield ANSWERED["2010"].read_bytes(), verdicts(whole, other, other), 0
-    yield old, verdicts(other, whole, other), 0
-    yield ANSWERED["2003, header 1"].read_bytes(), verdicts(other, other, whole), 0
-    yield old.removesuffix(b"\n"), verdicts(other, whole, other), 0
-    cut = b"".join(old.splitlines(keepends=True)[:100])
-    yield cut, verdicts(other, difference(101, "ANSWERS"), other) + NONE, 1
-    yield old + b"00\n", verdicts(other, difference(3337, "the log"), other) + NONE, 1
-    yield b"00\n00\n" + b"A" * 10**6, verdicts(*[difference(3)] * 3) + NONE, 1
-    yield b"", verdicts(*[difference(1, "ANSWERS")] * 3) + NONE, 1
+    """Answers to the archive's log, and the status of --compare with its last line, if that is no kind's."""
+    old = ANSWERED["2003"].read_bytes()
+    yield from ((path.read_bytes(), 0, "") for path in ANSWERED.values())
+    yield old.removesuffix(b"\n"), 0, ""
+    yield b"".join(old.splitlines(keepends=True)[:100]), 1, NONE
+    yield old + b"00\n", 1, NONE
+    yield old.replace(b"\n", b"\r\n"), 1, NONE
+    yield old.lower(), 1, NONE
+    yield b"00\n00\n" + b"A" * 10**6, 1, NONE
+    yield b"", 1, NONE
 
 
-def comparisons():
-    """A log, answers, and what --compare says of them with its status."""
-    log = ARCHIVE.read_bytes()
-    yield from ((log, *rest) for rest in archive_comparisons())
+def comparisons(worked_out):
+    """A log, the answers of each kind to it, some answers, and the status of --compare with its last line, if that is no
+    kind's. worked_out gives a kind's answers by bin/logbook."""
+    kinds = {kind: path.read_bytes() for kind, path in ANSWERED.items()}
+    yield from ((ARCHIVE.read_bytes(), kinds, *rest) for rest in archive_comparisons())
     example, answered = ((LOGS / f"example.{kind}").read_bytes() for kind in ("log", "answers"))
-    yield example, answered, verdicts(*["all 7 lines agree"] * 3) + SEVERAL, 1
-    yield b"", b"", verdicts(*["all 0 lines agree"] * 3) + SEVERAL, 1
+    for log, all_give in ((example, answered), (b"", b"")):
+        yield log, dict.fromkeys(KINDS, all_give), all_give, 1, BOTH
     wide = log_of([event(7, 3, b"\xa1"), wide_event(7, 3, b"\xa1")])
-    same, other = "all 2 lines agree", difference(2)
-    yield wide, b"00\n00\n", verdicts(same, same, other) + SEVERAL, 1
-    yield wide, b"00\n16\n", verdicts(other, other, same), 0
+    kinds = {"2010": b"00\n00\n", "2003": b"00\n00\n", "2003, header 1": b"00\n16\n"}
+    yield wide, kinds, b"00\n00\n", 1, BOTH
+    yield wide, kinds, b"00\n16\n", 0, ""
+    seeded = log_of([update(0, bytes(range(64))), event(7, 0, bytes(30)), request(0, 16)])
+    kinds = {kind: worked_out(kind, seeded) for kind in KINDS}
+    yield seeded, kinds, kinds["2010"], 0, ""
+    yield seeded, kinds, kinds["2003"], 0, EITHER
 
 
 def tells_editions(folder):
     """By the log's name or on standard input."""
-    words = [str(ROOT / "bin" / "logbook"), "--compare", "some.answers"]
-    for log, answered, expected, status in comparisons():
+    logbook = str(ROOT / "bin" / "logbook")
+
+    def worked_out(kind, log):
+        (folder / "some.log").write_bytes(log)
+        return tell([logbook, *KINDS[kind], "some.log"], folder, 0, None).encode()
+
+    words = [logbook, "--compare", "some.answers"]
+    for log, kinds, answered, status, last in comparisons(worked_out):
+        expected = "".join(f"edition {kind}: {verdict(kinds[kind], answered)}\n" for kind in KINDS) + last
         (folder / "some.log").write_bytes(log)
         (folder / "some.answers").write_bytes(answered)
         with open(folder / "some.log", "rb") as stream:
@@ -258,9 +292,17 @@ def tells_editions(folder):
             raise Failure(f"--compare, {log[:40]}, {answered[:40]}: expected '{expected}', found: {found}")
 
 
+def says_where_it_was_cut_off(folder):
+    """A full disk is no verdict."""
+    logbook = str(ROOT / "bin" / "logbook")
+    for words in ([], ["--compare", str(ANSWERED["2003"])]):
+        with open("/dev/full", "wb") as full:
+            tell([logbook, *words, str(ARCHIVE)], folder, 2, "logbook: reading or writing failed: No space left", stdout=full)
+
+
 CHECKS = (
-    *(helps, refuses, answers, failing_streams, at_once, no_pass, tells_staleness),
-    *(refuses_editions, works_out_editions, tells_editions),
+    *(helps, refuses, answers, failing_streams, at_once, no_pass, tells_staleness, tells_staleness_by_header),
+    *(refuses_editions, works_out_editions, tells_editions, says_where_it_was_cut_off),
 )
 
 

@@ -245,6 +245,6 @@ int main(void)
     kept_states();
     longest_pools();
     full_pools();
-    printf("c_interface: D begins with 64 zero bytes, in pools and seeds too; pools kept from before are refused\n");
+    printf("c_interface: D begins with 64 zero bytes, in pools and seeds too; pools kept from before are refused below 64 bytes\n");
     return 0;
 }

@@ -1,6 +1,7 @@
 """What the commands in bin/ share: a word that they don't know, or a file that can't be read, is one line and
 status 2."""
 import argparse
+import os
 import sys
 
 
@@ -22,6 +23,11 @@ class Parser(argparse.ArgumentParser):
             return open(name, "rb")
         except OSError as why:
             self.exit(2, f"{self.prog}: {name}: {why.strerror}\n")
+
+    def cut_off(self, why):
+        """A read or a write has failed. What is still to be written has nowhere to go, so nothing tries it at the end."""
+        sys.stderr.write(f"{self.prog}: reading or writing failed: {why.strerror}\n")
+        os._exit(2)
 
     def opened_or_standard_input(self, name):
         if name is not None:

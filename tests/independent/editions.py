@@ -14,8 +14,8 @@ no FILE is given.
                        file of what it answered to the log. Prints for each kind the first line that differs, if any
   --help               prints this
 
-Exit status: 0 every line was answered, or exactly one kind gives ANSWERS; 1 none does, or more than one, as for a log
-that draws no key; 2 bad arguments, or a file can't be read.
+Exit status: 0 every line was answered, or exactly one edition gives ANSWERS; 1 none does, or both, as for a log that
+draws no byte; 2 bad arguments, a file can't be read, or the answers can't be written.
 """
 import signal
 import sys
@@ -26,6 +26,7 @@ from arguments import Parser
 from logbook import Logbook, answer, answers, lines
 
 MOST_ANSWER = 2**18  # characters, more than an answer has: one of 65,535 bytes takes 131,076
+MOST_SHOWN = 16
 
 
 class Logbook2003(Logbook):
@@ -48,16 +49,30 @@ def title(edition, header):
     return f"edition {edition}" if header == "2" else f"edition {edition}, header {header}"
 
 
+def shown(reply):
+    """The start of an answer. A character that can't be seen, as a carriage return, is seen by its escape."""
+    return ascii(reply[:MOST_SHOWN].decode("latin-1")) + (".." if len(reply) > MOST_SHOWN else "")
+
+
+def difference(book, line, expected):
+    """What a kind's answer to a line has against the stored one; nothing where they are equal."""
+    if line is None:
+        return ", which the log does not have"
+    if expected is None:
+        return ", which ANSWERS does not have"
+    worked_out, expected = answer(book, line), expected.removesuffix(b"\n")
+    return "" if worked_out == expected else f": {shown(worked_out)} was worked out, {shown(expected)} found"
+
+
 def differences(log, stored):
-    """For each kind the first line, from 1, whose answer is not the stored one, and which file lacks that line, if one
-    does; and the number of lines that were compared. A kind that never differs is left out."""
+    """For each kind the first line, from 1, whose answer is not the stored one, with the difference; and the number of lines
+    that were compared. A kind that never differs is left out."""
     books = {kind: make() for kind, make in KINDS.items()}
     found, count = {}, 0
     for count, (line, expected) in enumerate(zip_longest(lines(log), stored), 1):
-        missing = "the log" if line is None else "ANSWERS" if expected is None else None
         for kind in [kind for kind in books if kind not in found]:
-            if missing or answer(books[kind], line) != expected.removesuffix(b"\n"):
-                found[kind] = count, missing
+            if text := difference(books[kind], line, expected):
+                found[kind] = f"first difference at line {count}{text}"
         if len(found) == len(books):
             break
     return found, count
@@ -67,15 +82,16 @@ def compare(log, stored):
     """Prints what --compare tells, and gives the exit status."""
     found, count = differences(log, iter(partial(stored.readline, MOST_ANSWER), b""))
     for kind in KINDS:
-        place, missing = found.get(kind, (None, None))
-        where = f"first difference at line {place}" if place else f"all {count} lines agree"
-        print(f"{title(*kind)}: {where}" + (f", which {missing} does not have" if missing else ""))
-    agreeing = len(KINDS) - len(found)
-    if agreeing == 0:
+        print(f"{title(*kind)}: {found.get(kind, f'all {count} lines agree')}")
+    agreeing = [kind for kind in KINDS if kind not in found]
+    editions = {edition for edition, _ in agreeing}
+    if not editions:
         print("no edition gives these answers")
-    if agreeing > 1:
-        print("more than one edition gives these answers: no key tells them apart")
-    return 0 if agreeing == 1 else 1
+    elif len(editions) > 1:
+        print("both editions give these answers: no byte was drawn that tells them apart")
+    elif len(agreeing) > 1:
+        print(f"edition {agreeing[0][0]}, with either header: no event has entered a key that was drawn from")
+    return 0 if len(editions) == 1 else 1
 
 
 def parsed(parser):
@@ -91,10 +107,8 @@ def parsed(parser):
     return chosen
 
 
-def main():
-    signal.signal(signal.SIGPIPE, signal.SIG_DFL)  # ends without a word where nobody reads on, as in logbook LOG | head
-    parser = Parser("logbook", __doc__)
-    chosen = parsed(parser)
+def work(parser, chosen):
+    """The exit status."""
     with parser.opened_or_standard_input(chosen.file) as log:
         if chosen.compare is not None:
             with parser.opened(chosen.compare) as stored:
@@ -102,6 +116,18 @@ def main():
         book = KINDS[chosen.edition or "2010", chosen.header or "2"]()
         sys.stdout.buffer.writelines(answers(log, book))
     return 0
+
+
+def main():
+    signal.signal(signal.SIGPIPE, signal.SIG_DFL)  # ends without a word where nobody reads on, as in logbook LOG | head
+    parser = Parser("logbook", __doc__)
+    chosen = parsed(parser)
+    try:
+        status = work(parser, chosen)
+        sys.stdout.flush()
+    except OSError as why:
+        parser.cut_off(why)
+    return status
 
 
 if __name__ == "__main__":

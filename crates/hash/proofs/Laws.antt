@@ -30,10 +30,6 @@ pub length-sha256 : (m : List ℕ) → length (sha256 m) ≡ 32
 unfolding sha256
 length-sha256 m = length-digest H⁰ _
 
-pub length-D : (m : List ℕ) → length (D m) ≡ 32
-unfolding D
-length-D m = length-sha256 (sha256 (zeroBlock ++ m))
-
 pub length-pool-digest : (r : Hasher) → length (poolDigest r) ≡ 32
 unfolding poolDigest
 length-pool-digest r = length-sha256 (finish (withZeroBlock r))
@@ -50,10 +46,6 @@ pub absorb-append : (r : Hasher) (d e : List ℕ) → length (r .tail) ≡ 64 �
 absorb-append r d e long = Absorb.absorb-append r d long e
 
 -- ---- SHA-256 by a running hash
-
-pub empty-is : emptyHasher ≡ hasherOf []
-unfolding emptyHasher hasherOf absorbFrom blocks zeroFilled
-empty-is = refl
 
 -- the state that a message leaves, from the empty one
 pub absorb-empty : (m : List ℕ) → absorb emptyHasher m ≡ hasherOf m
@@ -75,10 +67,6 @@ rest-length : (m : List ℕ) → length (drop (length m / 64 * 64) m) ≡ length
 rest-length m = rw length-drop (omega arith)
 
 module _ (h m : List ℕ) where
-  left-tail : length (absorbFrom h m (length m) .tail) ≡ 64
-  unfolding absorbFrom zeroFilled
-  left-tail = rw (length-append, length-replicate, rest-length m) (omega arith)
-
   left-zeros : drop (length m % 64) (absorbFrom h m (length m) .tail) ≡ replicate (64 - length m % 64) 0
   unfolding absorbFrom zeroFilled
   left-zeros =
@@ -146,10 +134,7 @@ pub pool-length : (m : List ℕ) → poolOf m .length ≡ length m
 unfolding absorbFrom
 pool-length m = rw (pool-is m)
 
--- a pool's tail is 64 bytes, with zeros after the bytes that are not hashed yet
-pub pool-tail : (m : List ℕ) → length (poolOf m .tail) ≡ 64
-pool-tail m = rw (pool-is m) (left-tail (emptyPool .chain) m)
-
+-- a pool's tail has zeros after the bytes that are not hashed yet
 pub pool-zeros : (m : List ℕ) → drop (length m % 64) (poolOf m .tail) ≡ replicate (64 - length m % 64) 0
 pool-zeros m = rw (pool-is m) (left-zeros (emptyPool .chain) m)
 

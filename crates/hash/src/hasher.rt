@@ -21,7 +21,8 @@ ghost use Rattle.hash.specs.Hasher.{emptyHasher, absorbFrom, absorb, fin
 ghost use Rattle.hash.specs.ShaD.{maxMessage, maxPoolLength, emptyPool, poolDigest};
 ghost use Rattle.hash.specs.Answers.{number, lengthNumber, digestWithin, absorbed};
 
-// The hash value over the whole blocks so far, the bytes after them with zeros behind, and the count of all bytes.
+// The hash value over the whole blocks so far, the bytes after them with zeros behind, and the count of all bytes. A pool's hash
+// value is over the block of zeros too, which its count leaves out.
 #[repr(C)]
 pub struct Hasher {
     pub chain: [u32; 8],
