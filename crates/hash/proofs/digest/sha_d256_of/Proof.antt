@@ -16,22 +16,30 @@ empty-pool-requires c κs = search needs
 
 extended-requires : tie.Need-extended-requires
 extended-requires c κs =
-    let h = d-message-fits _ (c .before .before .before .pre) in
+    let called = c .before .before .before in
+    let h = d-message-fits _ (called .pre) in
     rw (c .empty-pool .ensures, pool-empty-length, zero-add) (omega (arith, h))
 
 extended-requires-2 : tie.Need-extended-requires-2
 extended-requires-2 c κs =
-    rw (c .extended .ensures, absorb-length, c .before .empty-pool .ensures, pool-empty-length, zero-add) (d-message-fits _ (c .before .before .before .before .pre))
+    let empty = c .before in
+    let called = empty .before .before .before in
+    rw (c .extended .ensures, absorb-length, empty .empty-pool .ensures, pool-empty-length, zero-add) (d-message-fits _ (called .pre))
 
 pool-digest-of-requires : tie.Need-pool-digest-of-requires
 pool-digest-of-requires c κs =
-    rw (c .extended2 .ensures, absorb-length, c .before .extended .ensures, absorb-length, c .before .before .empty-pool .ensures, pool-empty-length, zero-add)
-    (pool-holds _ (c .before .before .before .before .before .pre))
+    let first = c .before in
+    let empty = first .before in
+    let called = empty .before .before .before in
+    rw (c .extended2 .ensures, absorb-length, first .extended .ensures, absorb-length, empty .empty-pool .ensures, pool-empty-length, zero-add)
+    (pool-holds _ (called .pre))
 
 returns : tie.Need-returns
 returns c =
-    c .pool-digest-of .ensures
-    ∙ rw (c .before .extended2 .ensures, c .before .before .extended .ensures, c .before .before .before .empty-pool .ensures) (pool-digest-joined _ _)
+    let second = c .before in
+    let first = second .before in
+    let empty = first .before in
+    c .pool-digest-of .ensures ∙ rw (second .extended2 .ensures, first .extended .ensures, empty .empty-pool .ensures) (pool-digest-joined _ _)
 
 pub sha-d256-of-spec : {M : Type 1} → statement M
 sha-d256-of-spec =
