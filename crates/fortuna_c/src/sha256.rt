@@ -24,14 +24,18 @@ fn handed_out(h: Hashed, digest: &mut [u8; 32]) -> u32
 
 #[no_mangle]
 pub extern "C" fn fortuna_sha256(data: &[u8], digest: &mut [u8; 32]) -> u32
-    ensures { λ r. ⌜ (r ≡ lengthNumber maxMessage (length (now («data» .entry)))) × (now (digest .exit) ≡ digestBuffer maxMessage (length (now («data» .entry))) (now (digest .entry)) (sha256 (now («data» .entry)))) ⌝ }
+    ensures { λ r. ⌜ (r ≡ lengthNumber maxMessage (length (now («data» .entry))))
+        × (now (digest .exit)
+        ≡ digestBuffer maxMessage (length (now («data» .entry))) (now (digest .entry)) (sha256 (now («data» .entry)))) ⌝ }
 {
     handed_out(hash::sha256(data), digest)
 }
 
 #[no_mangle]
 pub extern "C" fn fortuna_sha_d256(data: &[u8], digest: &mut [u8; 32]) -> u32
-    ensures { λ r. ⌜ (r ≡ lengthNumber maxDMessage (length (now («data» .entry)))) × (now (digest .exit) ≡ digestBuffer maxDMessage (length (now («data» .entry))) (now (digest .entry)) (D (now («data» .entry)))) ⌝ }
+    ensures { λ r. ⌜ (r ≡ lengthNumber maxDMessage (length (now («data» .entry))))
+        × (now (digest .exit)
+        ≡ digestBuffer maxDMessage (length (now («data» .entry))) (now (digest .entry)) (D (now («data» .entry)))) ⌝ }
 {
     handed_out(hash::sha_d256(data), digest)
 }

@@ -132,7 +132,8 @@ impl Generator {
     // The block operation, where it is accepted.
     fn filled(self, out: &mut [u8]) -> Generator
         requires { ⌜ decode self .count + blockCount (length (now out)) ≤ maxCounter ⌝ }
-        ensures { λ r. ⌜ (r ≡ encode (blockData (decode self) (length (now (out .entry))) .next)) × (now (out .exit) ≡ blockData (decode self) (length (now (out .entry))) .bytes) ⌝ }
+        ensures { λ r. ⌜ (r ≡ encode (blockData (decode self) (length (now (out .entry))) .next))
+            × (now (out .exit) ≡ blockData (decode self) (length (now (out .entry))) .bytes) ⌝ }
     {
         let key = self.key;
         let counter = self.counter;
@@ -146,7 +147,8 @@ impl Generator {
     // The request, where it is accepted. One key expansion serves output and key blocks.
     fn served(self, out: &mut [u8]) -> Generator
         requires { ⌜ decode self .count + (blockCount (length (now out)) + 2) ≤ maxCounter ⌝ }
-        ensures { λ r. ⌜ (r ≡ encode (pseudoRandomData (decode self) (length (now (out .entry))) .next)) × (now (out .exit) ≡ pseudoRandomData (decode self) (length (now (out .entry))) .bytes) ⌝ }
+        ensures { λ r. ⌜ (r ≡ encode (pseudoRandomData (decode self) (length (now (out .entry))) .next))
+            × (now (out .exit) ≡ pseudoRandomData (decode self) (length (now (out .entry))) .bytes) ⌝ }
     {
         let key = self.key;
         let counter = self.counter;
@@ -174,7 +176,9 @@ impl Generator {
 
     // Fills the buffer with blocks, the last cut short where needed, and keeps the key.
     pub fn generate_blocks(self, out: &mut [u8]) -> Outcome
-        ensures { λ r. ⌜ (number (r .answer) ≡ blocksAnswer self (now (out .entry))) × (r .next ≡ blocksMade self (now (out .entry))) × (now (out .exit) ≡ blocksBuffer self (now (out .entry))) ⌝ }
+        ensures { λ r. ⌜ (number (r .answer) ≡ blocksAnswer self (now (out .entry)))
+            × (r .next ≡ blocksMade self (now (out .entry)))
+            × (now (out .exit) ≡ blocksBuffer self (now (out .entry))) ⌝ }
     {
         let answer = self.output_answer(out.len(), 0);
         if answer.is_done() {
@@ -186,7 +190,9 @@ impl Generator {
 
     // Fills the buffer as generate_blocks does, then makes two blocks more, which become the key.
     pub fn pseudo_random_data(self, out: &mut [u8]) -> Outcome
-        ensures { λ r. ⌜ (number (r .answer) ≡ requestAnswer self (now (out .entry))) × (r .next ≡ requested self (now (out .entry))) × (now (out .exit) ≡ requestBuffer self (now (out .entry))) ⌝ }
+        ensures { λ r. ⌜ (number (r .answer) ≡ requestAnswer self (now (out .entry)))
+            × (r .next ≡ requested self (now (out .entry)))
+            × (now (out .exit) ≡ requestBuffer self (now (out .entry))) ⌝ }
     {
         let answer = self.output_answer(out.len(), 2);
         if answer.is_done() {

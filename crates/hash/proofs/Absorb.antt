@@ -83,7 +83,8 @@ module _ (r : Hasher) (long : length (r .tail) ≡ 64) where
       simp (length-append, length-replicate) (omega arith)
 
   pub finish-one : r .length % 64 < 56
-      → tabulate (wordsByte (compress (r .chain) (take 56 (zeroFilled (unhashed r ++ (128 ∷ []))) ++ tabulate (lengthByte (8 * r .length)) 8))) 32 ≡ finish r
+      → tabulate (wordsByte (compress (r .chain) (take 56 (zeroFilled (unhashed r ++ (128 ∷ []))) ++ tabulate (lengthByte (8 * r .length)) 8))) 32
+      ≡ finish r
   unfolding finish digestFrom
   finish-one h =
       let b : List ℕ = take 56 (zeroFilled (unhashed r ++ (128 ∷ []))) ++ tabulate (lengthByte (8 * r .length)) 8 in
@@ -92,12 +93,16 @@ module _ (r : Hasher) (long : length (r .tail) ≡ 64) where
       rw (pad-one (unhashed r) (r .length) (length-held r [] long) h, blocks-one (r .chain) b e)
 
   pub finish-two : 56 ≤ r .length % 64
-      → tabulate (wordsByte (compress (compress (r .chain) (zeroFilled (unhashed r ++ (128 ∷ [])))) (take 56 (replicate 64 0) ++ tabulate (lengthByte (8 * r .length)) 8))) 32 ≡ finish r
+      → tabulate (wordsByte (compress (compress (r .chain) (zeroFilled (unhashed r ++ (128 ∷ []))))
+      (take 56 (replicate 64 0) ++ tabulate (lengthByte (8 * r .length)) 8))) 32
+      ≡ finish r
   unfolding finish digestFrom
   finish-two h =
+      let marked : List ℕ = zeroFilled (unhashed r ++ (128 ∷ [])) in
       let b : List ℕ = take 56 (replicate 64 0) ++ tabulate (lengthByte (8 * r .length)) 8 in
       let e : length b ≡ 64 = rw (length-append, length-tabulate) in
-      rw (pad-two (unhashed r) (r .length) (length-held r [] long) h, blocks-next (r .chain) (zeroFilled (unhashed r ++ (128 ∷ []))) b marked-long, blocks-one (compress (r .chain) (zeroFilled (unhashed r ++ (128 ∷ [])))) b e)
+      let padded = pad-two (unhashed r) (r .length) (length-held r [] long) h in
+      rw (padded, blocks-next (r .chain) marked b marked-long, blocks-one (compress (r .chain) marked) b e)
 
 -- ---- a message in parts
 

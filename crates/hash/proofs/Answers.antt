@@ -21,11 +21,13 @@ module _ (limit n : ℕ) (t : Bool) (tested : t ≡ ltb limit n) where
   number-accepted e = rw (← tested, e)
 
   -- the number k and the digest d of a message whose digest would be x
-  pub hash-refused : (x d : List ℕ) (k : ℕ) → t ≡ true → (k ≡ 17) × (d ≡ replicate 32 0) → (k ≡ lengthNumber limit n) × (d ≡ digestWithin limit n x)
+  pub hash-refused : (x d : List ℕ) (k : ℕ) → t ≡ true → (k ≡ 17) × (d ≡ replicate 32 0)
+      → (k ≡ lengthNumber limit n) × (d ≡ digestWithin limit n x)
   unfolding digestWithin
   hash-refused x d k e (f, g) = (f ∙ number-refused e, rw (← tested, e) g)
 
-  pub hash-accepted : (x y d : List ℕ) (k : ℕ) → t ≡ false → y ≡ x → (k ≡ 0) × (d ≡ y) → (k ≡ lengthNumber limit n) × (d ≡ digestWithin limit n x)
+  pub hash-accepted : (x y d : List ℕ) (k : ℕ) → t ≡ false → y ≡ x → (k ≡ 0) × (d ≡ y)
+      → (k ≡ lengthNumber limit n) × (d ≡ digestWithin limit n x)
   unfolding digestWithin
   hash-accepted x y d k e h (f, g) = (f ∙ number-accepted e, rw (← tested, e) (g ∙ h))
 

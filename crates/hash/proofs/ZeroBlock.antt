@@ -9,7 +9,9 @@ use Rattle.hash.specs.ShaD.{zeroBlock, zeroBlockHash}
 use Rattle.hash.specs.Statements.{ZeroBlockHash}
 use Rattle.hash.proofs.Computing.{compressing}
 
-hashed : 0xda56_98be ∷ 0x17b9_b469 ∷ 0x6233_5799 ∷ 0x779f_beca ∷ 0x8ce5_d491 ∷ 0xc0d2_6243 ∷ 0xbafe_f9ea ∷ 0x1837_a9d8 ∷ [] ≡ compress H⁰ zeroBlock
+hashed :
+    0xda56_98be ∷ 0x17b9_b469 ∷ 0x6233_5799 ∷ 0x779f_beca ∷ 0x8ce5_d491 ∷ 0xc0d2_6243 ∷ 0xbafe_f9ea ∷ 0x1837_a9d8 ∷ []
+    ≡ compress H⁰ zeroBlock
 unfolding compressing zeroBlock
 hashed = refl
 

@@ -45,7 +45,8 @@ fn sha_d256_of(a: &[u8], b: &[u8]) -> [u8; 32]
 
 // SHA-256 of data.
 pub fn sha256(data: &[u8]) -> Hashed
-    ensures { λ r. ⌜ (number (r .answer) ≡ lengthNumber maxMessage (length (now («data» .entry)))) × (r .digest ≡ digestWithin maxMessage (length (now («data» .entry))) (sha256 (now («data» .entry)))) ⌝ }
+    ensures { λ r. ⌜ (number (r .answer) ≡ lengthNumber maxMessage (length (now («data» .entry))))
+        × (r .digest ≡ digestWithin maxMessage (length (now («data» .entry))) (sha256 (now («data» .entry)))) ⌝ }
 {
     if too_long(MAX_MESSAGE, data.len() as u64, 0) {
         return refused();
@@ -55,14 +56,16 @@ pub fn sha256(data: &[u8]) -> Hashed
 
 // D of data: SHA-256 of the SHA-256 of a block of zeros and data.
 pub fn sha_d256(data: &[u8]) -> Hashed
-    ensures { λ r. ⌜ (number (r .answer) ≡ lengthNumber maxDMessage (length (now («data» .entry)))) × (r .digest ≡ digestWithin maxDMessage (length (now («data» .entry))) (D (now («data» .entry)))) ⌝ }
+    ensures { λ r. ⌜ (number (r .answer) ≡ lengthNumber maxDMessage (length (now («data» .entry))))
+        × (r .digest ≡ digestWithin maxDMessage (length (now («data» .entry))) (D (now («data» .entry)))) ⌝ }
 {
     sha_d256_joined(data, b"")
 }
 
 // D of a and b joined, with no copy of either.
 pub fn sha_d256_joined(a: &[u8], b: &[u8]) -> Hashed
-    ensures { λ r. ⌜ (number (r .answer) ≡ lengthNumber maxDMessage (length (now (a .entry)) + length (now (b .entry)))) × (r .digest ≡ digestWithin maxDMessage (length (now (a .entry)) + length (now (b .entry))) (D (now (a .entry) ++ now (b .entry)))) ⌝ }
+    ensures { λ r. ⌜ (number (r .answer) ≡ lengthNumber maxDMessage (length (now (a .entry)) + length (now (b .entry))))
+        × (r .digest ≡ digestWithin maxDMessage (length (now (a .entry)) + length (now (b .entry))) (D (now (a .entry) ++ now (b .entry)))) ⌝ }
 {
     if too_long(MAX_D_MESSAGE, a.len() as u64, b.len() as u64) {
         return refused();

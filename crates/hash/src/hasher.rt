@@ -161,7 +161,8 @@ impl Hasher {
 
     // The state after data, or the refusal of a message above the limit.
     pub fn absorb(self, data: &[u8]) -> Absorbed
-        ensures { λ r. ⌜ (number (r .answer) ≡ lengthNumber maxMessage (self .length + length (now («data» .entry)))) × (r .next ≡ absorbed self (now («data» .entry))) ⌝ }
+        ensures { λ r. ⌜ (number (r .answer) ≡ lengthNumber maxMessage (self .length + length (now («data» .entry))))
+            × (r .next ≡ absorbed self (now («data» .entry))) ⌝ }
     {
         let count = self.length;
         if too_long(MAX_MESSAGE, count, data.len() as u64) {
@@ -179,7 +180,8 @@ impl Hasher {
 
     // The digest of what was absorbed. A length above the limit is refused.
     pub fn finish(self) -> Hashed
-        ensures { λ r. ⌜ (number (r .answer) ≡ lengthNumber maxMessage (self .length)) × (r .digest ≡ digestWithin maxMessage (self .length) (finish self)) ⌝ }
+        ensures { λ r. ⌜ (number (r .answer) ≡ lengthNumber maxMessage (self .length))
+            × (r .digest ≡ digestWithin maxMessage (self .length) (finish self)) ⌝ }
     {
         let count = self.length;
         if too_long(MAX_MESSAGE, count, 0) {
@@ -190,7 +192,8 @@ impl Hasher {
 
     // D of what a pool has absorbed. A length above the limit is refused.
     pub fn pool_digest(self) -> Hashed
-        ensures { λ r. ⌜ (number (r .answer) ≡ lengthNumber maxPoolLength (self .length)) × (r .digest ≡ digestWithin maxPoolLength (self .length) (poolDigest self)) ⌝ }
+        ensures { λ r. ⌜ (number (r .answer) ≡ lengthNumber maxPoolLength (self .length))
+            × (r .digest ≡ digestWithin maxPoolLength (self .length) (poolDigest self)) ⌝ }
     {
         let count = self.length;
         if too_long(MAX_POOL_LENGTH, count, 0) {

@@ -82,7 +82,8 @@ write-size m c due seed e = sized seed (both-passed (seedInput seed) (outputStat
 
 pub write-passed : (m : Bool) (c : ℕ) (due : Bool) (seed : List ℕ) → writeNumber m c due seed ≡ 0 → OutputPassed m c due (blockCount seedSize + 2)
 unfolding writeNumber
-write-passed m c due seed e = output-passed m c due (blockCount seedSize + 2) (both-passed (seedInput seed) (outputState m c due (blockCount seedSize + 2)) e .1)
+write-passed m c due seed e =
+    output-passed m c due (blockCount seedSize + 2) (both-passed (seedInput seed) (outputState m c due (blockCount seedSize + 2)) e .1)
 
 pub write-room : (m : Bool) (c : ℕ) (due : Bool) (seed : List ℕ) → writeNumber m c due seed ≡ 0 → c + cond due 1 0 + (blockCount seedSize + 2) ≤ maxCounter
 write-room m c due seed e = not-spent c due (blockCount seedSize + 2) (write-passed m c due seed e .room)
@@ -133,7 +134,8 @@ event-room m size source pool n e =
     ltb-false maxPoolLength (size + gain n) (passed (ltb maxPoolLength (size + gain n)) 22 0 (omega arith) (q .1) .0)
 
 -- the size of a pool counts only where there is such a pool
-pub event-size : (m : Bool) (size size′ source pool n : ℕ) → (pool < poolCount → size ≡ size′) → eventNumber m size source pool n ≡ eventNumber m size′ source pool n
+pub event-size : (m : Bool) (size size′ source pool n : ℕ) → (pool < poolCount → size ≡ size′)
+    → eventNumber m size source pool n ≡ eventNumber m size′ source pool n
 unfolding eventNumber
 event-size m size size′ source pool n h =
     then-cong (eventInput source pool n) (eventState m size n) (eventState m size′ n) (λ e. rw (h (input-passed source pool n e .place)))
@@ -162,7 +164,8 @@ draw-bounds m c due n d e =
 
 -- ---- a shuffle
 
-pub shuffle-passed : (m : Bool) (c : ℕ) (due : Bool) (list : List ℕ) → shuffleNumber m c due list ≡ 0 → 2 ≤ length list → OutputPassed m c due (192 * (length list - 1))
+pub shuffle-passed : (m : Bool) (c : ℕ) (due : Bool) (list : List ℕ) → shuffleNumber m c due list ≡ 0 → 2 ≤ length list
+    → OutputPassed m c due (192 * (length list - 1))
 unfolding shuffleNumber shuffleState
 shuffle-passed m c due list e h =
     let size : ℕ = length list in

@@ -81,12 +81,15 @@ module _ (clock : ℕ) where
     next = λ s e f q r. unfold after in let y = r (q .1) in (rw (y .0) (omega (arith, q .0)), y .1);
   }
 
-  pub first-try : (n d : ℕ) (s : Fortuna) → (tries (tryAt clock) n (suc d) s .effect .emptied ≡ emptiedBy s clock) × (due (tries (tryAt clock) n (suc d) s .effect .next) clock ≡ false)
+  pub first-try : (n d : ℕ) (s : Fortuna)
+      → (tries (tryAt clock) n (suc d) s .effect .emptied ≡ emptiedBy s clock)
+      × (due (tries (tryAt clock) n (suc d) s .effect .next) clock ≡ false)
   unfolding First
   first-try n d s = begun-tries (tryAt clock) Quiet quiet First first n d s
 
   pub first-shuffle : (p : ℕ) (list : List ℕ) (s : Fortuna)
-      → (shuffleFrom (tryAt clock) (suc p) list s .effect .emptied ≡ emptiedBy s clock) × (due (shuffleFrom (tryAt clock) (suc p) list s .effect .next) clock ≡ false)
+      → (shuffleFrom (tryAt clock) (suc p) list s .effect .emptied ≡ emptiedBy s clock)
+      × (due (shuffleFrom (tryAt clock) (suc p) list s .effect .next) clock ≡ false)
   unfolding First
   first-shuffle p list s = begun-shuffle (tryAt clock) Quiet quiet First first p list s
 

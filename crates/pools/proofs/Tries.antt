@@ -46,7 +46,8 @@ empty-formed =
     rw (pool-empty-length, le-ltb maxPoolLength 0 zero-le, clean, allZero-replicate 64, sameList-refl (emptyPool .chain))
 
 -- those of a reseed: emptied, or as they were
-reseeded-formed : (s : Fortuna) (clock : ℕ) → length (s .pools) ≡ poolCount → anyPool malformedPool (s .pools) ≡ false → anyPool malformedPool (poolReseed s clock .pools) ≡ false
+reseeded-formed : (s : Fortuna) (clock : ℕ) → length (s .pools) ≡ poolCount → anyPool malformedPool (s .pools) ≡ false
+    → anyPool malformedPool (poolReseed s clock .pools) ≡ false
 unfolding poolReseed emptiedPools poolAt nth
 reseeded-formed s clock all e =
     any-tabulate malformedPool _ poolCount
@@ -62,7 +63,8 @@ module _ (s : Fortuna) (clock : ℕ) where
   unfolding reseedIfDue poolReseed counterOf
   held-count = go (due s clock)
     where
-      go : (d : Bool) → decode (s .generator) .count + cond d 1 0 ≤ maxCounter → decode (cond d (poolReseed s clock) s .generator) .count ≡ decode (s .generator) .count + cond d 1 0
+      go : (d : Bool) → decode (s .generator) .count + cond d 1 0 ≤ maxCounter
+          → decode (cond d (poolReseed s clock) s .generator) .count ≡ decode (s .generator) .count + cond d 1 0
       go true h = reseeded-count (s .generator) (digests s (nextReseed s)) h
       go false h = omega arith
 
@@ -84,7 +86,8 @@ module _ (s : Fortuna) (clock : ℕ) where
       let timer : Bool = strayTimer (s .reseeded) (s .«last_reseed») (s .«reseed_count») in
       neither front timer (neither (front || timer) (unseededCounted (decode (s .generator) .count) (s .«key_requests»)) (fields-formed s e) .0) .1
 
-  held-timer : malformed s ≡ false → strayTimer (reseedIfDue s clock .reseeded) (reseedIfDue s clock .«last_reseed») (reseedIfDue s clock .«reseed_count») ≡ false
+  held-timer : malformed s ≡ false
+      → strayTimer (reseedIfDue s clock .reseeded) (reseedIfDue s clock .«last_reseed») (reseedIfDue s clock .«reseed_count») ≡ false
   unfolding reseedIfDue
   held-timer e =
       split (λ (q : Fortuna). strayTimer (q .reseeded) (q .«last_reseed») (q .«reseed_count») ≡ false) (due s clock)
@@ -153,7 +156,8 @@ tries-pools clock n (suc d) s all =
     (λ t. next)
     (λ t. tries-pools clock n d (tryAt clock s .next) next)
 
-pub tries-passing : (clock n d k : ℕ) (s : Fortuna) → length (s .pools) ≡ poolCount → Passing s clock (d + k) → Passing (tries (tryAt clock) n d s .effect .next) clock k
+pub tries-passing : (clock n d k : ℕ) (s : Fortuna) → length (s .pools) ≡ poolCount → Passing s clock (d + k)
+    → Passing (tries (tryAt clock) n d s .effect .next) clock k
 unfolding tries unchanged leaving after
 tries-passing clock n zero k s all p = rw (zero-add k) at p
 tries-passing clock n (suc d) k s all p =

@@ -163,7 +163,8 @@ next-agrees place b s c = ap (λ (o : Outcome Fortuna). o .effect .next) (step-a
 
 -- ---- every run
 
-pub run-agrees : (calls : List Call) (place : ℕ) (b : Reference) → Sound b → runFrom (λ place. step) place (concrete b) calls ≡ map concreteOutcome (runFrom referenceStep place b calls)
+pub run-agrees : (calls : List Call) (place : ℕ) (b : Reference) → Sound b
+    → runFrom (λ place. step) place (concrete b) calls ≡ map concreteOutcome (runFrom referenceStep place b calls)
 unfolding runFrom
 run-agrees [] place b s = refl
 run-agrees (c ∷ calls) place b s =
@@ -172,7 +173,8 @@ run-agrees (c ∷ calls) place b s =
     (ap (λ (x : Fortuna). runFrom (λ place. step) (suc place) x calls) (next-agrees place b s c)
     ∙ run-agrees calls (suc place) (referenceStep place b c .effect .next) (step-sound place b s c))
 
-pub state-agrees : (calls : List Call) (place : ℕ) (b : Reference) → Sound b → stateFrom (λ place. step) place (concrete b) calls ≡ concrete (stateFrom referenceStep place b calls)
+pub state-agrees : (calls : List Call) (place : ℕ) (b : Reference) → Sound b
+    → stateFrom (λ place. step) place (concrete b) calls ≡ concrete (stateFrom referenceStep place b calls)
 unfolding stateFrom
 state-agrees [] place b s = refl
 state-agrees (c ∷ calls) place b s =

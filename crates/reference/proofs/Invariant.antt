@@ -60,7 +60,8 @@ count-is b clock = ap (λ (n : ℕ). cond (dueAt b clock) (length (usedPools n))
 
 -- ---- what a pool holds
 
-pub contents-event : (place : ℕ) (b : Reference) (pool : ℕ) (bytes : List ℕ) (i : ℕ) → poolContents (appendEvent place b pool bytes) i ≡ poolContents b i ++ cond (eqb pool i) bytes []
+pub contents-event : (place : ℕ) (b : Reference) (pool : ℕ) (bytes : List ℕ) (i : ℕ)
+    → poolContents (appendEvent place b pool bytes) i ≡ poolContents b i ++ cond (eqb pool i) bytes []
 unfolding poolContents appendEvent contents
 contents-event place b pool bytes i =
     ap (λ (es : List Accepted). contents (select (pending (b .reseeds) i) es)) (events-noted place b pool bytes)
@@ -91,7 +92,8 @@ module _ (b : Reference) (t : ℕ) (p : Past (b .reseeds) (b .events)) where
 
 -- ---- each step keeps it
 
-pub sound-event : (place : ℕ) (b : Reference) (pool : ℕ) (bytes : List ℕ) → length (poolContents b pool) + length bytes ≤ maxPoolLength → Sound b → Sound (appendEvent place b pool bytes)
+pub sound-event : (place : ℕ) (b : Reference) (pool : ℕ) (bytes : List ℕ) → length (poolContents b pool) + length bytes ≤ maxPoolLength
+    → Sound b → Sound (appendEvent place b pool bytes)
 sound-event place b pool bytes h s =
     record {
       past = rw (events-noted place b pool bytes) (unfold appendEvent in past-append (b .reseeds) (b .events) _ (s .past) (omega arith));

@@ -79,8 +79,10 @@ module _ (place : ℕ) (b : Reference) (pool : ℕ) (bytes : List ℕ) where
 
   event-pools : pool < poolCount → set (concrete b .pools) pool (absorb (poolAt (concrete b) pool) bytes) ≡ concrete (appendEvent place b pool bytes) .pools
   event-pools h =
-      ap (λ (p : Hasher). set (concrete b .pools) pool p) (ap (λ (p : Hasher). absorb p bytes) (pool-concrete b pool h) ∙ absorb-pool (poolContents b pool) bytes ∙ ap poolOf (sym pool-gains))
-      ∙ (unfold concrete in set-tabulate (λ i. poolOf (poolContents b i)) (λ i. poolOf (poolContents (appendEvent place b pool bytes) i)) poolCount pool h (λ i n. ap poolOf (others-keep i n)))
+      ap (λ (p : Hasher). set (concrete b .pools) pool p)
+      (ap (λ (p : Hasher). absorb p bytes) (pool-concrete b pool h) ∙ absorb-pool (poolContents b pool) bytes ∙ ap poolOf (sym pool-gains))
+      ∙ (unfold concrete in set-tabulate (λ i. poolOf (poolContents b i)) (λ i. poolOf (poolContents (appendEvent place b pool bytes) i))
+      poolCount pool h (λ i n. ap poolOf (others-keep i n)))
 
   event-uncounted : b .keyRequests ≡ appendEvent place b pool bytes .keyRequests
   unfolding appendEvent
@@ -111,7 +113,8 @@ pub used-pools-concrete : (b : Reference) → usedPools (nextReseed (concrete b)
 used-pools-concrete b = rw (next-reseed-concrete b) (used-pools-mod (b .reseeds + 1))
 
 module _ (b : Reference) (t : ℕ) (s : Sound b) where
-  digest-concrete : (i : ℕ) → i < poolCount → used (b .reseeds + 1) i ≡ true → poolDigest (poolAt (concrete b) i) ≡ D (contents (select (consumedAt (b .reseeds + 1) i) (b .events)))
+  digest-concrete : (i : ℕ) → i < poolCount → used (b .reseeds + 1) i ≡ true
+      → poolDigest (poolAt (concrete b) i) ≡ D (contents (select (consumedAt (b .reseeds + 1) i) (b .events)))
   digest-concrete i h u = ap poolDigest (pool-concrete b i h) ∙ pool-digest-is (poolContents b i) ∙ ap D (contents-consumed b t (s .past) i u)
 
   -- the model's D of pool i at reseed n; its words for all of them
@@ -129,7 +132,8 @@ module _ (b : Reference) (t : ℕ) (s : Sound b) where
       ∙ joined-used (λ i. poolDigest (poolAt (concrete b) i)) (bookedDigest (b .reseeds + 1)) (b .reseeds + 1) digest-concrete
       ∙ digests-are (b .reseeds + 1)
 
-  emptied-pool : (i : ℕ) → i < poolCount → cond (used (nextReseed (concrete b)) i) emptyPool (poolAt (concrete b) i) ≡ poolOf (poolContents (referenceReseed b t) i)
+  emptied-pool : (i : ℕ) → i < poolCount
+      → cond (used (nextReseed (concrete b)) i) emptyPool (poolAt (concrete b) i) ≡ poolOf (poolContents (referenceReseed b t) i)
   emptied-pool i h =
       ap (λ (u : Bool). cond u emptyPool (poolAt (concrete b) i)) (used-concrete b i h)
       ∙ split (λ (p : Hasher). p ≡ poolOf (poolContents (referenceReseed b t) i)) (used (b .reseeds + 1) i)
@@ -140,7 +144,8 @@ module _ (b : Reference) (t : ℕ) (s : Sound b) where
   unfolding emptiedPools concrete
   reseed-pools = tabulate-ext _ (λ i. poolOf (poolContents (referenceReseed b t) i)) poolCount emptied-pool
 
-  reseed-generator : encode (reseed (decode (concrete b .generator)) (digests (concrete b) (nextReseed (concrete b)))) ≡ encode (reseed (b .generator) (scheduledDigests b (b .reseeds + 1)))
+  reseed-generator : encode (reseed (decode (concrete b .generator)) (digests (concrete b) (nextReseed (concrete b))))
+      ≡ encode (reseed (b .generator) (scheduledDigests b (b .reseeds + 1)))
   reseed-generator = ap encode (ap₂ reseed (decode-concrete b s) digests-concrete)
 
   mark-moves : t ≡ referenceReseed b t .lastReseed
@@ -197,13 +202,15 @@ requested-concrete b n k s =
       trace = closedRandomData (b .generator) n .trace;
     }
 
-pub random-data-concrete : (b : Reference) (t n : ℕ) → Sound b → Sound (referenceReseedIfDue b t) → randomData (concrete b) t n ≡ concreteEffect (referenceRequest b t n)
+pub random-data-concrete : (b : Reference) (t n : ℕ) → Sound b → Sound (referenceReseedIfDue b t)
+    → randomData (concrete b) t n ≡ concreteEffect (referenceRequest b t n)
 unfolding randomData referenceRequest requested
 random-data-concrete b t n s s′ =
     ap₂ (λ (x : Fortuna) (k : ℕ). requested x k (pseudoRandomData (decode (x .generator)) n)) (reseed-if-due-concrete b t s) (emptied-by-concrete b t s)
     ∙ requested-concrete (referenceReseedIfDue b t) n (referenceCount b t) s′
 
-pub reseed-with-seed-concrete : (b : Reference) (seed : List ℕ) → Sound b → reseedWithSeed (concrete b) seed ≡ concrete (withState b (reseed (b .generator) seed))
+pub reseed-with-seed-concrete : (b : Reference) (seed : List ℕ) → Sound b
+    → reseedWithSeed (concrete b) seed ≡ concrete (withState b (reseed (b .generator) seed))
 unfolding reseedWithSeed
 reseed-with-seed-concrete b seed s =
     ap (λ (w : GeneratorState). withGenerator (concrete b) (reseed w seed)) (decode-concrete b s)

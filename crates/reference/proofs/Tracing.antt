@@ -211,7 +211,8 @@ shape-tags :
     Tags (tracedAccepted place t c) x
 shape-tags place t b s tied c x (appended source pool content q e) = rw (q, e) (event-tags place t b source pool content (tied .tags))
 shape-tags place t b s tied c x (moved p m) =
-    subst (λ (r : Traced). Tags r x) (sym (accepted-quiet place t c (dueCall b c) (same-due t b tied c) p)) (moved-tags t b (readingOf c) s tied (dueCall b c) x m)
+    subst (λ (r : Traced). Tags r x) (sym (accepted-quiet place t c (dueCall b c) (same-due t b tied c) p))
+    (moved-tags t b (readingOf c) s tied (dueCall b c) x m)
 
 outcome-tags :
     (b : Reference) (buffer : List ℕ) (n : ℕ) (done : Effect Reference) (t m : Traced) → Tags t b → (n ≡ 0 → Tags m (done .next)) →

@@ -26,11 +26,12 @@ increment-requires c κs = search needs
 returns : tie.Need-returns
 unfolding encode reseed decode
 returns c =
-    let a = c .before .before .before .before .before .before .before .args in
-    let key : length (a .self .key) ≡ 32 = key-long (c .before .before .before .before .before .before .before) in
-    let d = c .before .before .sha-d256-joined .ensures .1 in
-    let fits : length (a .self .key) + length (a .seed .now) ≤ maxDMessage = rw key (joined-fits _ (c .before .before .before .before .before .before .before .pre)) in
-    let digest = d ∙ digest-within _ _ _ fits in
+    let hashed = c .before .before in
+    let called = hashed .before .before .before .before .before in
+    let a = called .args in
+    let key : length (a .self .key) ≡ 32 = key-long called in
+    let fits : length (a .self .key) + length (a .seed .now) ≤ maxDMessage = rw key (joined-fits _ (called .pre)) in
+    let digest = hashed .sha-d256-joined .ensures .1 ∙ digest-within _ _ _ fits in
     λ i. record { key = digest i; counter = c .increment .ensures i }
 
 pub mixed-spec : {M : Type 1} → statement M

@@ -76,10 +76,17 @@ after-blocks-requires-2 c κs = search needs
 
 returns-3 : tie.Need-returns-3
 returns-3 c =
-    let a = c .before .before .before .before .before .before .before .before .before .before .before .before .before .before .before .before .args in
-    let block = c .before .before .before .before .before .before .filled2 in
-    let next = c .before .before .before .compress in
-    absorb-fill (a .r) (a .«data» .now) (tail-long (c .before .before .before .before .before .before .before .before .before .before .before .before .before .before .before .before)) (block .result) (next .result) _ (omega arith) (block .ensures) (next .ensures) (c .after-blocks2 .ensures)
+    let compressed = c .before .before .before in
+    let filled = compressed .before .before .before in
+    let enough = filled .before .before .before .before in
+    let counted = enough .before .before in
+    let called = counted .before .before .before .before in
+    let a = called .args in
+    let block = filled .filled2 in
+    let next = compressed .compress in
+    absorb-fill (a .r) (a .«data» .now) (tail-long called) (block .result) (next .result) _ (enough .if1 .left) (block .ensures)
+    (next .ensures)
+    (c .after-blocks2 .ensures)
 
 pub extended-spec : {M : Type 1} → statement M
 extended-spec =

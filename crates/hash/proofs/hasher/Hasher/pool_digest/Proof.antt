@@ -36,8 +36,10 @@ accepted-requires c κs = search needs
 returns-2 : tie.Need-returns-2
 unfolding maxPoolLength maxDMessage maxMessage
 returns-2 c =
-    let t = c .before .before .before .too-long in
-    hash-accepted _ _ (t .result) (t .ensures ∙ rw add-zero) _ _ _ _ (c .before .before .if1 .left) (c .before .pool-digest-of .ensures) (c .accepted .ensures)
+    let digested = c .before in
+    let short = digested .before in
+    let t = short .before .too-long in
+    hash-accepted _ _ (t .result) (t .ensures ∙ rw add-zero) _ _ _ _ (short .if1 .left) (digested .pool-digest-of .ensures) (c .accepted .ensures)
 
 pub pool-digest-spec : {M : Type 1} → statement M
 pool-digest-spec =
