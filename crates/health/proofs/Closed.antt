@@ -14,15 +14,16 @@ use borrow.Author.Tests.{le-leb, eq-eqb, ltb-true, ltb-false, leb-true, leb-fals
 use Rattle.laws.proofs.Cases.{by-test, split}
 use Rattle.health.specs.Samples.{windowSize, runAfter, repetitionFails, firstAfter, countAfter, proportionFails, fails, noted}
 use Rattle.health.specs.Calls.{outOfRange, fresh, tested}
-use Rattle.health.specs.Statements.{notedAll, PassesAt, FirstFailure}
-use Rattle.health.specs.Closed.{sampleAt, LastEqual, runEndingAt, RunLaw, windowStart, occurrences, countAt, WindowLaw, FailsByLaw, openWindow}
+use Rattle.health.specs.Statements.{sampleAt, notedAll, repetitionFailsAt, proportionFailsAt, failsAt, IsFirst}
+use Rattle.health.specs.Closed.{LastEqual, runEndingAt, RunLaw, windowStart, occurrences, countAt, WindowLaw, FailsByLaw, openWindow}
 use Rattle.health.specs.Closed.{stateAfter, StateLaw, FailsNeither, FailsFirst, FirstFailureClosedLaw}
 use Rattle.health.specs.declared.HealthState.{HealthState}
 use Rattle.health.specs.declared.Outcome.{Outcome}
 use Rattle.health.specs.declared.Answer.{Answer}
 use Rattle.health.specs.declared.Answer.the-variants.{Passed, Failed, CutoffRange, Malformed}
 use Rattle.health.proofs.States.{neither}
-use Rattle.health.proofs.Cutting.{accepted-again, first-failure}
+use Rattle.health.proofs.Cutting.{accepted-again}
+use Rattle.health.proofs.Failing.{first-failure}
 
 -- ---- runs of equal samples
 
@@ -312,125 +313,71 @@ false-not-true : (a : Bool) → a ≡ false → ¬ (a ≡ true)
 false-not-true a e h = true≢false (sym h ∙ e)
 
 module _ (r p : ℕ) (samples : List ℕ) where
-  abbrev repeatsAt : ℕ → Bool
-  repeatsAt k = repetitionFails r (notedAll fresh (take k samples)) (sampleAt samples k)
+  abbrev repeats : ℕ → Bool
+  repeats k = repetitionFailsAt r fresh samples k
 
-  abbrev crowdsAt : ℕ → Bool
-  crowdsAt k = proportionFails p (notedAll fresh (take k samples)) (sampleAt samples k)
+  abbrev crowds : ℕ → Bool
+  crowds k = proportionFailsAt p fresh samples k
 
-  fails-neither : (k : ℕ) → k < length samples → PassesAt r p fresh samples k → FailsNeither r p samples k
+  fails-neither : (k : ℕ) → k < length samples → failsAt r p fresh samples k ≡ false → FailsNeither r p samples k
   unfolding fails
   fails-neither k l e =
-      let n = neither (repeatsAt k) (crowdsAt k) e in
-      (λ h. false-not-true (repeatsAt k) (n .0) (repetition-by samples k l r .1 h), λ h. false-not-true (crowdsAt k) (n .1) (proportion-by samples k l p .1 h))
+      let n = neither (repeats k) (crowds k) e in
+      (λ h. false-not-true (repeats k) (n .0) (repetition-by samples k l r .1 h), λ h. false-not-true (crowds k) (n .1) (proportion-by samples k l p .1 h))
 
-  passes-at : (k : ℕ) → k < length samples → FailsNeither r p samples k → PassesAt r p fresh samples k
+  passes-at : (k : ℕ) → k < length samples → FailsNeither r p samples k → failsAt r p fresh samples k ≡ false
   unfolding fails
   passes-at k l n =
       rw (
-        not-true-false (repeatsAt k) (λ e. n .0 (repetition-by samples k l r .0 e)),
-        not-true-false (crowdsAt k) (λ e. n .1 (proportion-by samples k l p .0 e)),
+        not-true-false (repeats k) (λ e. n .0 (repetition-by samples k l r .0 e)),
+        not-true-false (crowds k) (λ e. n .1 (proportion-by samples k l p .0 e)),
       )
 
-  -- the first that fails, if one does
-  abbrev Stops : ℕ → Type 0
-  Stops k =
-      (k < length samples) × ((j : ℕ) → j < k → PassesAt r p fresh samples j)
-      × (fails r p (notedAll fresh (take k samples)) (sampleAt samples k) ≡ true)
-
-  abbrev Looked : ℕ → Type 0
-  Looked n = ((k : ℕ) → k < n → PassesAt r p fresh samples k) ⊎ ((k : ℕ) × Stops k)
-
-  looked : (n : ℕ) → n ≤ length samples → Looked n
-  looked zero h = inl (λ k l. absurd (omega arith))
-  looked (suc n) h = ⊎-elim here inr (looked n (omega arith))
-    where
-      here : ((k : ℕ) → k < n → PassesAt r p fresh samples k) → Looked (suc n)
-      here all =
-          by-test (fails r p (notedAll fresh (take n samples)) (sampleAt samples n)) (Looked (suc n)) (λ t. inr (n, (h, all, t)))
-          (λ t. inl (λ k l. by-test (ltb k n) (PassesAt r p fresh samples k) (λ u. all k (ltb-true k n u))
-          (λ u.
-          let m = ltb-false k n u in
-          let q : n ≡ k = omega arith in
-          subst (PassesAt r p fresh samples) q t)))
-
-  first-there : (k : ℕ) → Stops k → FailsFirst r p samples k (repeatsAt k) (crowdsAt k)
+  first-there : (k : ℕ) → IsFirst r p fresh samples k → FailsFirst r p samples k (repeats k) (crowds k)
   unfolding fails
   first-there k h = record {
-    inside = h .0;
-    before = λ j l. fails-neither j (omega (arith, h .0)) (h .1 j (omega arith));
-    repetition-told = repetition-by samples k (h .0) r;
-    proportion-told = proportion-by samples k (h .0) p;
-    fails-one = h .2;
+    inside = h .inside;
+    before = λ j l. fails-neither j (omega (arith, h .inside)) (h .before j (omega arith));
+    repetition-told = repetition-by samples k (h .inside) r;
+    proportion-told = proportion-by samples k (h .inside) p;
+    fails-one = h .here;
   }
 
-  stops : (k : ℕ) (x y : Bool) → FailsFirst r p samples k x y → (repeatsAt k ≡ x) × (crowdsAt k ≡ y) × Stops k
+  is-first : (k : ℕ) (x y : Bool) → FailsFirst r p samples k x y → IsFirst r p fresh samples k × (x ≡ repeats k) × (y ≡ crowds k)
   unfolding fails
-  stops k x y f =
+  is-first k x y f =
       let R = repetition-by samples k (f .inside) r in
       let P = proportion-by samples k (f .inside) p in
-      let q : repeatsAt k ≡ x = same-test (repeatsAt k) x (λ e. f .repetition-told .1 (R .0 e)) (λ e. R .1 (f .repetition-told .0 e)) in
-      let c : crowdsAt k ≡ y = same-test (crowdsAt k) y (λ e. f .proportion-told .1 (P .0 e)) (λ e. P .1 (f .proportion-told .0 e)) in
-      let one : (repeatsAt k || crowdsAt k) ≡ true = ap₂ (λ (v w : Bool). v || w) q c ∙ f .fails-one in
-      (q, c, (f .inside, λ j l. passes-at j (omega (arith, f .inside)) (f .before j (omega arith)), one))
+      let q : x ≡ repeats k = same-test x (repeats k) (λ e. R .1 (f .repetition-told .0 e)) (λ e. f .repetition-told .1 (R .0 e)) in
+      let c : y ≡ crowds k = same-test y (crowds k) (λ e. P .1 (f .proportion-told .0 e)) (λ e. f .proportion-told .1 (P .0 e)) in
+      let one : (repeats k || crowds k) ≡ true = ap₂ (λ (v w : Bool). v || w) (sym q) (sym c) ∙ f .fails-one in
+      (record { inside = f .inside; before = λ j l. passes-at j (omega (arith, f .inside)) (f .before j (omega arith)); here = one }, q, c)
 
-  module _ (a : outOfRange r ≡ false) (b : outOfRange p ≡ false) where
-    law : FirstFailure r p fresh samples
-    law = first-failure r p fresh samples a b (accepted-again r p .start a b)
+  fails-first : (k : ℕ) (x y : Bool) → IsFirst r p fresh samples k × (x ≡ repeats k) × (y ≡ crowds k) → FailsFirst r p samples k x y
+  fails-first k x y h = rw (h .1, h .2) (first-there k (h .0))
 
-    all-pass : ((k : ℕ) → k < length samples → PassesAt r p fresh samples k)
-        → tested r p fresh samples ≡ record { answer = Passed; next = stateAfter samples (length samples) }
-    all-pass h =
-        law .passes h
-        ∙ ap (λ (s : HealthState). record { answer = Passed; next = s })
-        (ap (notedAll fresh) (sym (take-length samples)) ∙ state-closed samples (length samples) (omega arith))
-
-    stops-at : (k : ℕ) → Stops k → tested r p fresh samples ≡ record { answer = Failed k (repeatsAt k) (crowdsAt k); next = fresh }
-    stops-at k h = law .fails k (h .0) (h .1) (h .2)
-
-    -- what an answer says of the samples
-    Told : Answer → Type 0
-    Told Passed = (k : ℕ) → k < length samples → FailsNeither r p samples k
-    Told (Failed k x y) = FailsFirst r p samples k x y
-    Told CutoffRange = ⊥
-    Told Malformed = ⊥
-
-    told-passed : ((k : ℕ) → k < length samples → PassesAt r p fresh samples k) → Told Passed
-    unfolding Told
-    told-passed h = λ k l. fails-neither k l (h k l)
-
-    told-failed : (k : ℕ) → Stops k → Told (Failed k (repeatsAt k) (crowdsAt k))
-    unfolding Told
-    told-failed k h = first-there k h
-
-    told-by : Looked (length samples) → Told (tested r p fresh samples .answer)
-    told-by (inl h) = subst Told (sym (ap (λ (o : Outcome). o .answer) (all-pass h))) (told-passed h)
-    told-by (inr h) = subst Told (sym (ap (λ (o : Outcome). o .answer) (stops-at (h .0) (h .1)))) (told-failed (h .0) (h .1))
-
-    told : (o : Outcome) → tested r p fresh samples ≡ o → Told (o .answer)
-    told o e = subst Told (ap (λ (o : Outcome). o .answer) e) (told-by (looked (length samples) (omega arith)))
-
-    passes-told : tested r p fresh samples ≡ record { answer = Passed; next = stateAfter samples (length samples) } → (k : ℕ) → k < length samples
-        → FailsNeither r p samples k
-    unfolding Told
-    passes-told e = told _ e
-
-    failure-told : (k : ℕ) (x y : Bool) → tested r p fresh samples ≡ record { answer = Failed k x y; next = fresh } → FailsFirst r p samples k x y
-    unfolding Told
-    failure-told k x y e = told _ e
-
-    -- and back
-    fails-there : (k : ℕ) (x y : Bool) → FailsFirst r p samples k x y → tested r p fresh samples ≡ record { answer = Failed k x y; next = fresh }
-    fails-there k x y f =
-        let h = stops k x y f in
-        stops-at k (h .2) ∙ ap₂ (λ (v w : Bool). record { answer = Failed k v w; next = fresh }) (h .0) (h .1)
+  -- the state left, both ways of writing it
+  passed-closed : _≡_ {A = Outcome} (record { answer = Passed; next = notedAll fresh samples })
+      (record { answer = Passed; next = stateAfter samples (length samples) })
+  passed-closed =
+      ap (λ (s : HealthState). record { answer = Passed; next = s })
+      (ap (notedAll fresh) (sym (take-length samples)) ∙ state-closed samples (length samples) (omega arith))
 
 pub first-failure-closed : FirstFailureClosedLaw
-first-failure-closed r p samples a b = record {
-  either =
-      ⊎-elim (λ h. inl (λ k l. fails-neither r p samples k l (h k l)))
-      (λ h. inr (h .0, repeatsAt r p samples (h .0), crowdsAt r p samples (h .0), first-there r p samples (h .0) (h .1)))
-      (looked r p samples (length samples) (omega arith));
-  passes = (passes-told r p samples a b, λ h. all-pass r p samples a b (λ k l. passes-at r p samples k l (h k l)));
-  fails = λ k x y. (failure-told r p samples a b k x y, fails-there r p samples a b k x y);
-}
+first-failure-closed r p samples a b =
+    let law = first-failure r p fresh samples (accepted-again r p .start samples a b) in
+    let same = passed-closed r p samples in
+    record {
+      either =
+          ⊎-elim (λ h. inl (λ k l. fails-neither r p samples k l (h k l)))
+          (λ h. inr (h .0, repeats r p samples (h .0), crowds r p samples (h .0), first-there r p samples (h .0) (h .1)))
+          (law .either);
+      passes = (
+        λ e. λ k l. fails-neither r p samples k l (law .passes .0 (e ∙ sym same) k l),
+        λ h. law .passes .1 (λ k l. passes-at r p samples k l (h k l)) ∙ same,
+      );
+      fails = λ k x y. (
+        λ e. fails-first r p samples k x y (law .fails k x y .0 e),
+        λ f. law .fails k x y .1 (is-first r p samples k x y f),
+      );
+    }

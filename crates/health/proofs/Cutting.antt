@@ -1,4 +1,4 @@
--- Samples cut in parts, the states that calls leave, and which sample fails first.
+-- Samples cut in parts, and the states that calls leave.
 -- Assumes nothing.
 use mathlib.Core.Path.{_≡_, refl, sym, ap, subst, fun-ext, _∙_}
 use mathlib.Core.Bool.{Bool, true, false, cond}
@@ -10,12 +10,13 @@ use Rattle.laws.specs.Lists.{joined}
 use Rattle.laws.proofs.Cases.{by-test}
 use Rattle.health.specs.Samples.{repetitionFails, proportionFails, fails, noted, Result, passed, failed, testFrom}
 use Rattle.health.specs.Calls.{outOfRange, malformed, fresh, failedAt, outcomeOf, tested}
-use Rattle.health.specs.Statements.{later, onwardFrom, inParts, CuttingLaw, AcceptedAgain, notedAll, PassesAt, FirstFailureLaw}
+use Rattle.health.specs.Statements.{later, onwardFrom, inParts, CuttingLaw, AcceptedAgain}
 use Rattle.health.specs.declared.HealthState.{HealthState}
 use Rattle.health.specs.declared.Outcome.{Outcome}
 use Rattle.health.specs.declared.Answer.the-variants.{Passed, Failed, CutoffRange, Malformed}
 use Rattle.health.proofs.States.{Formed, formed, well-formed, fresh-formed, noted-formed}
 use Rattle.health.proofs.Walks.{refused-first, refused-second, refused-state, not-refused}
+use Rattle.health.proofs.Numbers.{accepted, accepts}
 
 -- ---- a walk in two parts
 
@@ -55,11 +56,11 @@ from-append r p k s (x ∷ xs) ys =
 
 -- ---- the states that a walk goes through
 
-pass-step : (r p k : ℕ) (s : HealthState) (x : ℕ) (xs : List ℕ) → fails r p s x ≡ false → testFrom r p k s (x ∷ xs) ≡ testFrom r p (suc k) (noted s x) xs
+pub pass-step : (r p k : ℕ) (s : HealthState) (x : ℕ) (xs : List ℕ) → fails r p s x ≡ false → testFrom r p k s (x ∷ xs) ≡ testFrom r p (suc k) (noted s x) xs
 unfolding testFrom
 pass-step r p k s x xs w = rw w
 
-fail-step : (r p k : ℕ) (s : HealthState) (x : ℕ) (xs : List ℕ) → fails r p s x ≡ true
+pub fail-step : (r p k : ℕ) (s : HealthState) (x : ℕ) (xs : List ℕ) → fails r p s x ≡ true
     → testFrom r p k s (x ∷ xs) ≡ failed k (repetitionFails r s x) (proportionFails p s x)
 unfolding testFrom
 fail-step r p k s x xs w = rw w
@@ -88,11 +89,11 @@ unfolding outcomeOf shift later failedAt
 later-outcome n (passed t) = refl
 later-outcome n (failed place a b) = refl
 
-passed-outcome : (t : HealthState) → outcomeOf (passed t) ≡ record { answer = Passed; next = t }
+pub passed-outcome : (t : HealthState) → outcomeOf (passed t) ≡ record { answer = Passed; next = t }
 unfolding outcomeOf
 passed-outcome t = refl
 
-failed-outcome : (place : ℕ) (a b : Bool) → outcomeOf (failed place a b) ≡ record { answer = Failed place a b; next = fresh }
+pub failed-outcome : (place : ℕ) (a b : Bool) → outcomeOf (failed place a b) ≡ record { answer = Failed place a b; next = fresh }
 unfolding outcomeOf failedAt
 failed-outcome place a b = refl
 
@@ -173,35 +174,8 @@ module _ (r p : ℕ) (a : outOfRange r ≡ false) (b : outOfRange p ≡ false) w
 
 pub accepted-again : (r p : ℕ) → AcceptedAgain r p
 accepted-again r p = record {
-  start = λ a b. well-formed r p fresh (fresh-formed r p a b);
-  left = λ s xs a b m. left-formed r p a b s xs m;
-}
-
--- ---- which sample fails first
-
-pass-all : (r p k : ℕ) (s : HealthState) (xs : List ℕ) → ((j : ℕ) → j < length xs → PassesAt r p s xs j) → testFrom r p k s xs ≡ passed (notedAll s xs)
-unfolding notedAll
-pass-all r p k s [] h = unfold testFrom in refl
-pass-all r p k s (x ∷ xs) h =
-    pass-step r p k s x xs (h 0 (omega arith))
-    ∙ pass-all r p (suc k) (noted s x) xs (λ j l. h (suc j) (omega arith))
-
-fail-at : (r p n : ℕ) (s : HealthState) (xs : List ℕ) (k : ℕ) → k < length xs → ((j : ℕ) → j < k → PassesAt r p s xs j)
-    → fails r p (notedAll s (take k xs)) (getD xs k 0) ≡ true
-    → testFrom r p n s xs
-    ≡ failed (n + k) (repetitionFails r (notedAll s (take k xs)) (getD xs k 0)) (proportionFails p (notedAll s (take k xs)) (getD xs k 0))
-unfolding notedAll
-fail-at r p n s [] k l h w = absurd (omega arith)
-fail-at r p n s (x ∷ xs) zero l h w = let q : n + 0 ≡ n = omega arith in rw q (fail-step r p n s x xs w)
-fail-at r p n s (x ∷ xs) (suc k) l h w =
-    let q : n + suc k ≡ suc n + k = omega arith in
-    pass-step r p n s x xs (h 0 (omega arith))
-    ∙ rw q (fail-at r p (suc n) (noted s x) xs k (omega arith) (λ j l. h (suc j) (omega arith)) w)
-
-pub first-failure : FirstFailureLaw
-first-failure r p s xs a b m = record {
-  passes = λ h. not-refused r p s xs a b m ∙ ap outcomeOf (pass-all r p 0 s xs h) ∙ passed-outcome (notedAll s xs);
-  fails = λ k l h w.
-      let q : 0 + k ≡ k = omega arith in
-      not-refused r p s xs a b m ∙ ap outcomeOf (rw q at (fail-at r p 0 s xs k l h w)) ∙ failed-outcome k _ _;
+  start = λ xs a b. accepts r p fresh xs a b (well-formed r p fresh (fresh-formed r p a b));
+  left = λ s xs more e.
+      let h = accepted r p s xs e in
+      accepts r p (tested r p s xs .next) more (h .0) (h .1) (left-formed r p (h .0) (h .1) s xs (h .2));
 }

@@ -43,11 +43,11 @@ fresh = record { last = 0; run = 0; first = 0; count = 0; seen = 0 }
 
 -- the first failing sample ends the run, and the state is fresh again
 unfoldable pub failedAt : ℕ → Bool → Bool → Outcome
-failedAt place repetition proportion = record { answer = Failed place repetition proportion; next = fresh }
+failedAt place byRepetition byProportion = record { answer = Failed place byRepetition byProportion; next = fresh }
 
 unfoldable pub outcomeOf : Result → Outcome
 outcomeOf (passed next) = record { answer = Passed; next = next }
-outcomeOf (failed place repetition proportion) = failedAt place repetition proportion
+outcomeOf (failed place byRepetition byProportion) = failedAt place byRepetition byProportion
 
 -- the cutoffs are looked at first, then the state; a refusal leaves the state as it was
 unfoldable pub tested : ℕ → ℕ → HealthState → List ℕ → Outcome
@@ -59,6 +59,6 @@ tested repetition proportion s samples =
 -- 02's number of an answer, 0 where the samples were tested
 unfoldable pub number : Answer → ℕ
 number Passed = 0
-number (Failed place repetition proportion) = 0
+number (Failed place byRepetition byProportion) = 0
 number CutoffRange = 34
 number Malformed = 35

@@ -9,15 +9,11 @@ use Prim.Native.Nat.{ℕ, zero, suc, _+_, _*_, _/_, _≤_, _<_}
 use lib.Dec.{eqb}
 use lib.ListN.{length, take, getD}
 use lib.Seq.{slice}
-use Rattle.health.specs.Samples.{windowSize, repetitionFails, proportionFails}
+use Rattle.health.specs.Samples.{windowSize}
 use Rattle.health.specs.Calls.{outOfRange, fresh, tested}
-use Rattle.health.specs.Statements.{notedAll}
+use Rattle.health.specs.Statements.{sampleAt, notedAll, repetitionFailsAt, proportionFailsAt}
 use Rattle.health.specs.declared.HealthState.{HealthState}
 use Rattle.health.specs.declared.Answer.the-variants.{Passed, Failed}
-
--- the sample at a place, from 0
-abbrev pub sampleAt : List ℕ → ℕ → ℕ
-sampleAt samples k = getD samples k 0
 
 -- ---- 4.4.1
 
@@ -58,12 +54,10 @@ WindowLaw =
 
 -- ---- which sample fails which test
 
--- from a fresh start, with all samples before it noted: the last C are equal; the window's first has come C times there
+-- from a fresh start: sample k fails the one where the last C are equal, the other where the window's first has come C times there
 pub record FailsBy (samples : List ℕ) (k : ℕ) : Type 0 where
-  pub repetition :
-      (cutoff : ℕ) → (repetitionFails cutoff (notedAll fresh (take k samples)) (sampleAt samples k) ≡ true) ↔ LastEqual cutoff samples k
-  pub proportion :
-      (cutoff : ℕ) → (proportionFails cutoff (notedAll fresh (take k samples)) (sampleAt samples k) ≡ true) ↔ (cutoff ≤ countAt samples k)
+  pub repetition : (cutoff : ℕ) → (repetitionFailsAt cutoff fresh samples k ≡ true) ↔ LastEqual cutoff samples k
+  pub proportion : (cutoff : ℕ) → (proportionFailsAt cutoff fresh samples k ≡ true) ↔ (cutoff ≤ countAt samples k)
 
 abbrev pub FailsByLaw : Type 0
 FailsByLaw = (samples : List ℕ) (k : ℕ) → k < length samples → FailsBy samples k
@@ -95,26 +89,26 @@ abbrev pub FailsNeither : ℕ → ℕ → List ℕ → ℕ → Type 0
 FailsNeither repetition proportion samples k = ¬ LastEqual repetition samples k × ¬ (proportion ≤ countAt samples k)
 
 -- sample k is the first that fails, and these are the tests that it fails
-pub record FailsFirst (repetition proportion : ℕ) (samples : List ℕ) (k : ℕ) (repeats crowds : Bool) : Type 0 where
+pub record FailsFirst (repetition proportion : ℕ) (samples : List ℕ) (k : ℕ) (byRepetition byProportion : Bool) : Type 0 where
   pub inside : k < length samples
   pub before : (j : ℕ) → j < k → FailsNeither repetition proportion samples j
-  pub repetition-told : (repeats ≡ true) ↔ LastEqual repetition samples k
-  pub proportion-told : (crowds ≡ true) ↔ (proportion ≤ countAt samples k)
-  pub fails-one : (repeats || crowds) ≡ true
+  pub repetition-told : (byRepetition ≡ true) ↔ LastEqual repetition samples k
+  pub proportion-told : (byProportion ≡ true) ↔ (proportion ≤ countAt samples k)
+  pub fails-one : (byRepetition || byProportion) ≡ true
 
 -- of any samples none fails, or one is the first that does; exactly in the first case the call passes, and leaves the state above; exactly in the
 -- second it fails there, by these tests, and leaves a fresh one
 pub record FirstFailureClosed (repetition proportion : ℕ) (samples : List ℕ) : Type 0 where
   pub either :
       ((k : ℕ) → k < length samples → FailsNeither repetition proportion samples k)
-      ⊎ ((k : ℕ) × (repeats : Bool) × (crowds : Bool) × FailsFirst repetition proportion samples k repeats crowds)
+      ⊎ ((k : ℕ) × (byRepetition : Bool) × (byProportion : Bool) × FailsFirst repetition proportion samples k byRepetition byProportion)
   pub passes :
       (tested repetition proportion fresh samples ≡ record { answer = Passed; next = stateAfter samples (length samples) })
       ↔ ((k : ℕ) → k < length samples → FailsNeither repetition proportion samples k)
   pub fails :
-      (k : ℕ) (repeats crowds : Bool) →
-      (tested repetition proportion fresh samples ≡ record { answer = Failed k repeats crowds; next = fresh })
-      ↔ FailsFirst repetition proportion samples k repeats crowds
+      (k : ℕ) (byRepetition byProportion : Bool) →
+      (tested repetition proportion fresh samples ≡ record { answer = Failed k byRepetition byProportion; next = fresh })
+      ↔ FailsFirst repetition proportion samples k byRepetition byProportion
 
 abbrev pub FirstFailureClosedLaw : Type 0
 FirstFailureClosedLaw =

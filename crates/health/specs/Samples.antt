@@ -48,7 +48,7 @@ noted s x =
 -- what a run of samples comes to: the state left, or the first sample that fails, by its place, and whether it fails each test
 pub data Result : Type 0 where
   passed : (next : HealthState) → Result
-  failed : (place : ℕ) (repetition proportion : Bool) → Result
+  failed : (place : ℕ) (byRepetition byProportion : Bool) → Result
 
 -- the samples from a place on
 unfoldable pub testFrom : ℕ → ℕ → ℕ → HealthState → List ℕ → Result
