@@ -1,6 +1,7 @@
 // The C interface: include/fortuna.h says the same in C's words.
 mod aes256;
 mod fortuna_generator;
+mod health_tests;
 mod sha256;
 mod slot_draws;
 mod station;
@@ -14,6 +15,9 @@ pub use fortuna_generator::fortuna_generator_blocks;
 pub use fortuna_generator::fortuna_generator_new;
 pub use fortuna_generator::fortuna_generator_request;
 pub use fortuna_generator::fortuna_generator_reseed;
+pub use health_tests::FortunaHealthAnswer;
+pub use health_tests::fortuna_health_new;
+pub use health_tests::fortuna_health_test;
 pub use sha256::fortuna_sha_d256;
 pub use sha256::fortuna_sha256;
 pub use slot_draws::FortunaDraw;
