@@ -47,26 +47,32 @@ failed-requires c κs = search needs
 
 returns : tie.Need-returns Inv-loop μ-loop
 returns c =
-    let l = c .before .before .before .before .before .before .loop in
-    let r = c .before .before .before .run-after .ensures in
-    let k = c .before .before .count-after .ensures in
+    let tested = c .before in
+    let counted = tested .before in
+    let ran = counted .before in
+    let l = ran .before .before .before .loop in
+    let long = rw (ran .run-after .ensures) at (tested .if1 .taken) in
     returns-failed _ _ _ _ _ (c .failed .ensures)
-    (l .inv .2 ∙ first-fails _ _ _ _ (l .state) (omega arith) (rw r at (c .before .if1 .taken)) ∙ rw (← k))
+    (l .inv .2 ∙ first-fails _ _ _ _ (l .state) (omega arith) long ∙ rw (← counted .count-after .ensures))
 
 failed-requires-2 : tie.Need-failed-requires-2 Inv-loop μ-loop
 failed-requires-2 c κs = search needs
 
 returns-2 : tie.Need-returns-2 Inv-loop μ-loop
 returns-2 c =
-    let l = c .before .before .before .before .before .before .before .loop in
-    let r = c .before .before .before .before .run-after .ensures in
-    let k = c .before .before .before .count-after .ensures in
-    returns-failed _ _ _ _ _ (c .failed2 .ensures)
-    (l .inv .2 ∙ second-fails _ _ _ _ (l .state) (omega arith) (rw r at (c .before .before .if1 .left)) (rw k at (c .before .if2 .taken)))
+    let crowded = c .before in
+    let tested = crowded .before in
+    let counted = tested .before in
+    let ran = counted .before in
+    let l = ran .before .before .before .loop in
+    let short = rw (ran .run-after .ensures) at (tested .if1 .left) in
+    let many = rw (counted .count-after .ensures) at (crowded .if2 .taken) in
+    returns-failed _ _ _ _ _ (c .failed2 .ensures) (l .inv .2 ∙ second-fails _ _ _ _ (l .state) (omega arith) short many)
 
 noted-requires : tie.Need-noted-requires Inv-loop μ-loop
 noted-requires c κs =
-    let head = c .before .before .before .before .before .before in
+    let ran = c .before .before .before in
+    let head = ran .before .before .before in
     let start = head .before .before in
     bounds _ _ _ (start .pre .0) (start .pre .1) (head .loop .inv .1)
 
@@ -78,18 +84,22 @@ loop-less c = search needs
 
 loop-again : tie.Need-loop-again Inv-loop μ-loop
 loop-again c =
-    let head = c .before .before .before .before .before .before .before in
+    let crowded = c .before in
+    let tested = crowded .before in
+    let counted = tested .before in
+    let ran = counted .before in
+    let head = ran .before .before .before in
     let start = head .before .before in
     let l = head .loop in
-    let r = c .before .before .before .before .run-after .ensures in
-    let k = c .before .before .before .count-after .ensures in
-    let short = rw r at (c .before .before .if1 .left) in
-    let few = rw k at (c .before .if2 .left) in
+    let short = rw (ran .run-after .ensures) at (tested .if1 .left) in
+    let few = rw (counted .count-after .ensures) at (crowded .if2 .left) in
     let g = goes-on _ _ (start .args .samples .now) (l .i) (l .state) (omega arith) (start .pre .1) (l .inv .1) short few in
     (omega arith, rw (c .noted .ensures) (g .0), rw (c .noted .ensures) (l .inv .2 ∙ g .1))
 
 returns-3 : tie.Need-returns-3 Inv-loop μ-loop
-returns-3 c = returns-passed _ _ (c .before .loop .inv .2 ∙ walk-end _ _ _ _ (c .before .loop .state) (c .loop-test .left))
+returns-3 c =
+    let l = c .before .loop in
+    returns-passed _ _ (l .inv .2 ∙ walk-end _ _ _ _ (l .state) (c .loop-test .left))
 
 pub walk-spec : {M : Type 1} → statement M
 walk-spec =
