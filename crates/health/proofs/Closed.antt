@@ -10,18 +10,19 @@ use native.Mathlib.Omega.{arith}
 use lib.Dec.{eqb, ltb, leb}
 use lib.ListN.{length, take, drop, getD}
 use lib.Seq.{slice, slice-empty, slice-cons, length-slice, take-suc, take-add, take-length, length-take-le, drop-append-le, getD-drop, getD-take}
-use borrow.Author.Tests.{le-leb, eq-eqb, ltb-true, ltb-false, leb-true, leb-false, eqb-true, eqb-false}
-use Rattle.laws.proofs.Cases.{by-test, split}
+use borrow.Author.Tests.{le-leb, eq-eqb, ne-eqb, ltb-true, ltb-false, leb-true, leb-false, eqb-true, eqb-false}
+use Rattle.laws.specs.Lists.{countOf}
+use Rattle.laws.proofs.Cases.{by-test, split, neither}
+use Rattle.laws.proofs.Counts.{count-append}
 use Rattle.health.specs.Samples.{windowSize, runAfter, repetitionFails, firstAfter, countAfter, proportionFails, fails, noted}
 use Rattle.health.specs.Calls.{outOfRange, fresh, tested}
 use Rattle.health.specs.Statements.{sampleAt, notedAll, repetitionFailsAt, proportionFailsAt, failsAt, IsFirst}
-use Rattle.health.specs.Closed.{LastEqual, runEndingAt, RunLaw, windowStart, occurrences, countAt, WindowLaw, FailsByLaw, openWindow}
+use Rattle.health.specs.Closed.{LastEqual, runEndingAt, RunLaw, windowStart, countAt, WindowLaw, FailsByLaw, openWindow}
 use Rattle.health.specs.Closed.{stateAfter, StateLaw, FailsNeither, FailsFirst, FirstFailureClosedLaw}
 use Rattle.health.specs.declared.HealthState.{HealthState}
 use Rattle.health.specs.declared.Outcome.{Outcome}
 use Rattle.health.specs.declared.Answer.{Answer}
 use Rattle.health.specs.declared.Answer.the-variants.{Passed, Failed, CutoffRange, Malformed}
-use Rattle.health.proofs.States.{neither}
 use Rattle.health.proofs.Cutting.{accepted-again}
 use Rattle.health.proofs.Failing.{first-failure}
 
@@ -85,25 +86,23 @@ module _ (samples : List ℕ) where
 pub runs : RunLaw
 runs = run-longest
 
--- ---- occurrences
+-- ---- counts
 
-occurrences-more : (a : ℕ) (ys : List ℕ) (y : ℕ) → occurrences a (ys ++ (y ∷ [])) ≡ cond (eqb y a) (occurrences a ys + 1) (occurrences a ys)
-unfolding occurrences
-occurrences-more a [] y = split (λ (n : ℕ). cond (eqb y a) 1 0 + 0 ≡ n) (eqb y a) (λ t. rw t) (λ t. rw t)
-occurrences-more a (z ∷ ys) y =
-    rw (occurrences-more a ys y)
-    (by-test (eqb y a) (cond (eqb z a) 1 0 + cond (eqb y a) (occurrences a ys + 1) (occurrences a ys)
-    ≡ cond (eqb y a) (cond (eqb z a) 1 0 + occurrences a ys + 1) (cond (eqb z a) 1 0 + occurrences a ys))
-    (λ t. rw t (omega arith)) (λ t. rw t))
+eqb-comm : (a b : ℕ) → eqb a b ≡ eqb b a
+eqb-comm a b =
+    by-test (eqb b a) (eqb a b ≡ eqb b a) (λ t. rw t (eq-eqb a b (sym (eqb-true b a t)))) (λ t. rw t (ne-eqb a b (λ q. eqb-false b a t (sym q))))
 
-occurrences-one : (a : ℕ) → occurrences a (a ∷ []) ≡ 1
-unfolding occurrences
-occurrences-one a = rw (eq-eqb a a refl)
+count-single : (a y : ℕ) → countOf a (y ∷ []) ≡ cond (eqb y a) 1 0
+unfolding countOf
+count-single a y = rw (eqb-comm a y) (omega arith)
 
-occurrences-append : (a : ℕ) (ys zs : List ℕ) → occurrences a (ys ++ zs) ≡ occurrences a ys + occurrences a zs
-unfolding occurrences
-occurrences-append a [] zs = omega arith
-occurrences-append a (y ∷ ys) zs = rw (occurrences-append a ys zs) (omega arith)
+count-one : (a : ℕ) → countOf a (a ∷ []) ≡ 1
+count-one a = count-single a a ∙ rw (eq-eqb a a refl)
+
+count-more : (a : ℕ) (ys : List ℕ) (y : ℕ) → countOf a (ys ++ (y ∷ [])) ≡ cond (eqb y a) (countOf a ys + 1) (countOf a ys)
+count-more a ys y =
+    rw (count-append a ys (y ∷ []), count-single a y)
+    (split (λ (n : ℕ). countOf a ys + cond (eqb y a) 1 0 ≡ n) (eqb y a) (λ t. rw t) (λ t. rw t (omega arith)))
 
 -- ---- windows
 
@@ -134,8 +133,8 @@ module _ (samples : List ℕ) where
   state-first zero = refl
   state-first (suc k) = refl
 
-  state-count : (k : ℕ) → stateAfter samples k .count ≡ occurrences (getD (openWindow samples k) 0 0) (openWindow samples k)
-  unfolding stateAfter fresh windowSize occurrences
+  state-count : (k : ℕ) → stateAfter samples k .count ≡ countOf (getD (openWindow samples k) 0 0) (openWindow samples k)
+  unfolding stateAfter fresh windowSize countOf
   state-count zero = refl
   state-count (suc k) = refl
 
@@ -198,16 +197,16 @@ module _ (samples : List ℕ) where
         (λ t. count-on (past-start (eqb-false (s .seen) 0 t)))
       where
         count-start : w ≡ k → 1 ≡ countAt samples k
-        count-start q = sym (rw (q, add-one k, slice-cons k (suc k) samples 0 (omega arith) (omega arith), slice-empty (suc k) samples) (occurrences-one y))
+        count-start q = sym (rw (q, add-one k, slice-cons k (suc k) samples 0 (omega arith) (omega arith), slice-empty (suc k) samples) (count-one y))
 
         count-on : w < k → cond (eqb y (s .first)) (s .count + 1) (s .count) ≡ countAt samples k
         count-on l =
-            rw (slice-more (omega arith), occurrences-more (sampleAt samples w) (slice w k samples) y, state-count k, state-first k, head-is w k l)
+            rw (slice-more (omega arith), count-more (sampleAt samples w) (slice w k samples) y, state-count k, state-first k, head-is w k l)
 
     -- ---- the state with it
 
     full-next : (s .seen + 1 ≡ 512) → record { last = y; run = runAfter s y; first = 0; count = 0; seen = 0 } ≡ stateAfter samples (suc k)
-    unfolding stateAfter occurrences
+    unfolding stateAfter countOf
     full-next h =
         let q : windowStart (suc k) ≡ suc k = start-next k (ap (λ (n : ℕ). n + 1) (sym (state-seen k (omega arith))) ∙ h) in
         rw (q, slice-empty (suc k) samples, run-closed k)
@@ -234,24 +233,24 @@ noted-more s (y ∷ xs) x = noted-more (noted s y) xs x
 
 -- a longer part has no fewer
 slice-grows : (a b c : ℕ) (v : ℕ) (samples : List ℕ) → a ≤ b → b ≤ c → b ≤ length samples
-    → occurrences v (slice a b samples) ≤ occurrences v (slice a c samples)
+    → countOf v (slice a b samples) ≤ countOf v (slice a c samples)
 slice-grows a b c v samples h g l =
     let q : c ≡ b + (c - b) = omega arith in
     let e : slice a c samples ≡ slice a b samples ++ take (c - b) (drop b samples) =
     ap (λ (i : ℕ). slice a i samples) q ∙ ap (drop a) (take-add b (c - b) samples)
     ∙ drop-append-le a (take b samples) (take (c - b) (drop b samples)) (rw (length-take-le b samples l) h) in
-    rw (e, occurrences-append v (slice a b samples) (take (c - b) (drop b samples))) (omega arith)
+    rw (e, count-append v (slice a b samples) (take (c - b) (drop b samples))) (omega arith)
 
 module _ (cutoff : ℕ) (samples : List ℕ) (n : ℕ) (whole : 512 * (n + 1) ≤ length samples) where
-  window-within : (k : ℕ) → k / 512 ≡ n → cutoff ≤ occurrences (sampleAt samples (512 * (k / 512))) (slice (512 * (k / 512)) (k + 1) samples)
-      → cutoff ≤ occurrences (sampleAt samples (512 * n)) (slice (512 * n) (512 * (n + 1)) samples)
+  window-within : (k : ℕ) → k / 512 ≡ n → cutoff ≤ countOf (sampleAt samples (512 * (k / 512))) (slice (512 * (k / 512)) (k + 1) samples)
+      → cutoff ≤ countOf (sampleAt samples (512 * n)) (slice (512 * n) (512 * (n + 1)) samples)
   window-within k e h =
       let g = slice-grows (512 * n) (k + 1) (512 * (n + 1)) (sampleAt samples (512 * n)) samples (omega arith) (omega arith) (omega arith) in
-      let f : cutoff ≤ occurrences (sampleAt samples (512 * n)) (slice (512 * n) (k + 1) samples) = rw e at h in
+      let f : cutoff ≤ countOf (sampleAt samples (512 * n)) (slice (512 * n) (k + 1) samples) = rw e at h in
       omega arith
 
-  window-last : cutoff ≤ occurrences (sampleAt samples (512 * n)) (slice (512 * n) (512 * (n + 1)) samples)
-      → cutoff ≤ occurrences (sampleAt samples (512 * ((512 * n + 511) / 512))) (slice (512 * ((512 * n + 511) / 512)) (512 * n + 511 + 1) samples)
+  window-last : cutoff ≤ countOf (sampleAt samples (512 * n)) (slice (512 * n) (512 * (n + 1)) samples)
+      → cutoff ≤ countOf (sampleAt samples (512 * ((512 * n + 511) / 512))) (slice (512 * ((512 * n + 511) / 512)) (512 * n + 511 + 1) samples)
   window-last h =
       let e : (512 * n + 511) / 512 ≡ n = omega arith in
       let q : 512 * n + 511 + 1 ≡ 512 * (n + 1) = omega arith in

@@ -56,7 +56,8 @@ from-append r p k s (x ∷ xs) ys =
 
 -- ---- the states that a walk goes through
 
-pub pass-step : (r p k : ℕ) (s : HealthState) (x : ℕ) (xs : List ℕ) → fails r p s x ≡ false → testFrom r p k s (x ∷ xs) ≡ testFrom r p (suc k) (noted s x) xs
+pub pass-step : (r p k : ℕ) (s : HealthState) (x : ℕ) (xs : List ℕ) → fails r p s x ≡ false
+    → testFrom r p k s (x ∷ xs) ≡ testFrom r p (suc k) (noted s x) xs
 unfolding testFrom
 pass-step r p k s x xs w = rw w
 
@@ -71,7 +72,8 @@ failed-passed k a b t h = let z : _≡_ {A = ℕ} 0 1 = cc in omega arith
 same-passed : (s t : HealthState) → passed s ≡ passed t → s ≡ t
 same-passed s t h = cc
 
-walk-formed : (r p k : ℕ) (s t : HealthState) (xs : List ℕ) → outOfRange p ≡ false → Formed r p s → testFrom r p k s xs ≡ passed t → Formed r p t
+walk-formed : (r p k : ℕ) (s t : HealthState) (xs : List ℕ) → outOfRange p ≡ false → Formed r p s
+    → testFrom r p k s xs ≡ passed t → Formed r p t
 walk-formed r p k s t [] range f e = subst (Formed r p) (same-passed s t (unfold testFrom in e)) f
 walk-formed r p k s t (x ∷ xs) range f e = go (walk-formed r p (suc k) (noted s x) t xs range)
   where

@@ -6,7 +6,7 @@ use mathlib.Core.List.{List}
 use Prim.Native.Nat.{ℕ, _<_}
 use native.Mathlib.Omega.{arith}
 use Rattle.laws.specs.Refusals.{refuse}
-use Rattle.laws.proofs.Cases.{by-test}
+use Rattle.laws.proofs.Cases.{by-test, neither}
 use Rattle.laws.proofs.Refusals.{passed as passed-test}
 use Rattle.health.specs.Samples.{Result, passed, failed, testFrom}
 use Rattle.health.specs.Calls.{outOfRange, malformed, failedAt, outcomeOf, tested, number}
@@ -14,7 +14,6 @@ use Rattle.health.specs.Statements.{Refuses, RefusalLaw, NumberTells}
 use Rattle.health.specs.declared.HealthState.{HealthState}
 use Rattle.health.specs.declared.Outcome.{Outcome}
 use Rattle.health.specs.declared.Answer.the-variants.{Passed, Failed, CutoffRange, Malformed}
-use Rattle.health.proofs.States.{neither}
 use Rattle.health.proofs.Walks.{refused-first, refused-second, refused-state, not-refused}
 
 pub number-tells : NumberTells

@@ -8,16 +8,12 @@ use native.Mathlib.Nat.{pos-of-ne-zero}
 use native.Mathlib.Omega.{arith}
 use lib.Dec.{eqb, ltb, leb}
 use borrow.Author.Tests.{lt-ltb, le-ltb, lt-leb, eq-eqb, ne-eqb, ltb-true, ltb-false, leb-false, eqb-true, eqb-false, not-false}
-use Rattle.laws.proofs.Cases.{split}
+use Rattle.laws.proofs.Cases.{split, neither}
 use Rattle.health.specs.Samples.{windowSize, runAfter, repetitionFails, countAfter, proportionFails, fails, noted}
 use Rattle.health.specs.Calls.{outOfRange, anyOf, malformed, fresh}
 use Rattle.health.specs.declared.HealthState.{HealthState}
 
 -- ---- tests of two parts
-
-pub neither : (a b : Bool) → (a || b) ≡ false → (a ≡ false) × (b ≡ false)
-neither true b e = absurd (true≢false e)
-neither false b e = (refl, e)
 
 pub not-both : (a b : Bool) → (a && b) ≡ false → a ≡ true → b ≡ false
 not-both true b e h = e

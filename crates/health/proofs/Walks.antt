@@ -85,7 +85,8 @@ module _ (r p : ℕ) (s : HealthState) (samples : List ℕ) where
   unfolding tested
   refused-second h k = rw (h, k)
 
-  pub refused-state : outOfRange r ≡ false → outOfRange p ≡ false → malformed r p s ≡ true → record { answer = Malformed; next = s } ≡ tested r p s samples
+  pub refused-state : outOfRange r ≡ false → outOfRange p ≡ false → malformed r p s ≡ true
+      → record { answer = Malformed; next = s } ≡ tested r p s samples
   unfolding tested
   refused-state h k m = rw (h, k, m)
 

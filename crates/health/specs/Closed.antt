@@ -9,6 +9,7 @@ use Prim.Native.Nat.{ℕ, zero, suc, _+_, _*_, _/_, _≤_, _<_}
 use lib.Dec.{eqb}
 use lib.ListN.{length, take, getD}
 use lib.Seq.{slice}
+use Rattle.laws.specs.Lists.{countOf}
 use Rattle.health.specs.Samples.{windowSize}
 use Rattle.health.specs.Calls.{outOfRange, fresh, tested}
 use Rattle.health.specs.Statements.{sampleAt, notedAll, repetitionFailsAt, proportionFailsAt}
@@ -35,14 +36,9 @@ RunLaw = (samples : List ℕ) (k n : ℕ) → LastEqual n samples k ↔ (n ≤ r
 abbrev pub windowStart : ℕ → ℕ
 windowStart k = windowSize * (k / windowSize)
 
--- how often x stands in a list
-unfoldable pub occurrences : ℕ → List ℕ → ℕ
-occurrences x [] = 0
-occurrences x (y ∷ ys) = cond (eqb y x) 1 0 + occurrences x ys
-
 -- how often the first sample of the window has come there, up to place k, that one included
 abbrev pub countAt : List ℕ → ℕ → ℕ
-countAt samples k = occurrences (sampleAt samples (windowStart k)) (slice (windowStart k) (k + 1) samples)
+countAt samples k = countOf (sampleAt samples (windowStart k)) (slice (windowStart k) (k + 1) samples)
 
 -- some sample of window n comes to the cutoff exactly if the window's first comes so often in the whole window: looked at with each sample or only
 -- where a window is full, the test fails in the same windows
@@ -50,7 +46,7 @@ abbrev pub WindowLaw : Type 0
 WindowLaw =
     (cutoff : ℕ) (samples : List ℕ) (n : ℕ) → windowSize * (n + 1) ≤ length samples →
     ((k : ℕ) × (k / windowSize ≡ n) × (cutoff ≤ countAt samples k))
-    ↔ (cutoff ≤ occurrences (sampleAt samples (windowSize * n)) (slice (windowSize * n) (windowSize * (n + 1)) samples))
+    ↔ (cutoff ≤ countOf (sampleAt samples (windowSize * n)) (slice (windowSize * n) (windowSize * (n + 1)) samples))
 
 -- ---- which sample fails which test
 
@@ -75,7 +71,7 @@ stateAfter samples (suc k) = record {
   last = sampleAt samples k;
   run = runEndingAt samples k;
   first = getD (openWindow samples (suc k)) 0 0;
-  count = occurrences (getD (openWindow samples (suc k)) 0 0) (openWindow samples (suc k));
+  count = countOf (getD (openWindow samples (suc k)) 0 0) (openWindow samples (suc k));
   seen = length (openWindow samples (suc k));
 }
 

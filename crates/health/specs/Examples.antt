@@ -39,7 +39,8 @@ OrderRow =
 abbrev pub ClausesRow : Type 0
 ClausesRow =
     map (λ s. numberOf s 5 4)
-    (state 7 5 7 1 9 ∷ state 7 4 7 1 9 ∷ state 7 1 7 4 9 ∷ state 7 1 7 3 9 ∷ state 7 1 7 3 2 ∷ state 7 1 7 3 3 ∷ state 7 1 7 1 512 ∷ state 7 1 7 1 511
+    (state 7 5 7 1 9 ∷ state 7 4 7 1 9 ∷ state 7 1 7 4 9 ∷ state 7 1 7 3 9 ∷ state 7 1 7 3 2 ∷ state 7 1 7 3 3
+    ∷ state 7 1 7 1 512 ∷ state 7 1 7 1 511
     ∷ state 7 1 7 0 9 ∷ state 0 0 7 1 9 ∷ state 7 1 7 1 9 ∷ state 7 1 7 0 0 ∷ state 7 1 0 0 0 ∷ state 7 0 0 0 0 ∷ state 0 0 0 0 0 ∷ [])
     ≡ 35 ∷ 0 ∷ 35 ∷ 0 ∷ 35 ∷ 0 ∷ 35 ∷ 0 ∷ 35 ∷ 35 ∷ 0 ∷ 35 ∷ 0 ∷ 35 ∷ 0 ∷ []
 

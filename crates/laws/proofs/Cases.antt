@@ -1,7 +1,7 @@
 -- Case distinction on a test.
 -- Assumes nothing.
 use mathlib.Core.Path.{_≡_, refl}
-use mathlib.Core.Bool.{Bool, true, false, cond}
+use mathlib.Core.Bool.{Bool, true, false, cond, _||_, true≢false}
 
 module _ {A : Type 0} where
   -- what holds of each branch where its test passes holds of `cond`
@@ -18,3 +18,8 @@ module _ {A : Type 0} where
 pub by-test : (t : Bool) (C : Type 0) → (t ≡ true → C) → (t ≡ false → C) → C
 by-test true C f g = f refl
 by-test false C f g = g refl
+
+-- a test that fails in both parts
+pub neither : (a b : Bool) → (a || b) ≡ false → (a ≡ false) × (b ≡ false)
+neither true b e = absurd (true≢false e)
+neither false b e = (refl, e)

@@ -4,3 +4,4 @@ pub mod Tables
 pub mod Copy
 pub mod Refusals
 pub mod Lists
+pub mod Counts

@@ -1,8 +1,8 @@
 -- Lists that several crates speak of. Past its end a list reads as 0 (`getD s i 0`), and `take` and `drop` stop there.
 -- Assumes nothing.
-use mathlib.Core.Bool.{Bool, true, false, _&&_}
+use mathlib.Core.Bool.{Bool, true, false, cond, _&&_}
 use mathlib.Core.List.{List, [], _∷_, _++_}
-use Prim.Native.Nat.{ℕ, zero, suc}
+use Prim.Native.Nat.{ℕ, zero, suc, _+_}
 use lib.Dec.{eqb}
 use lib.ListN.{length, take, drop}
 
@@ -26,6 +26,11 @@ sameList [] [] = true
 sameList [] (y ∷ ys) = false
 sameList (x ∷ xs) [] = false
 sameList (x ∷ xs) (y ∷ ys) = eqb x y && sameList xs ys
+
+-- how often x stands in a list
+unfoldable pub countOf : ℕ → List ℕ → ℕ
+countOf x [] = 0
+countOf x (y ∷ ys) = cond (eqb x y) 1 0 + countOf x ys
 
 -- what f gives at each element, joined
 unfoldable pub joined : {A B : Type 0} → (A → List B) → List A → List B

@@ -10,7 +10,7 @@ use lib.Dec.{eqb, ltb}
 use lib.ListN.{length}
 use borrow.Author.Tests.{ltb-false, le-ltb, eqb-true, eqb-false}
 use Rattle.laws.specs.Refusals.{refuse}
-use Rattle.laws.proofs.Cases.{by-test, cond-cong}
+use Rattle.laws.proofs.Cases.{by-test, cond-cong, neither}
 use Rattle.laws.proofs.Refusals.{passed}
 use Rattle.hash.specs.ShaD.{maxPoolLength}
 use Rattle.generator.specs.Counter.{maxCounter}
@@ -20,7 +20,6 @@ use Rattle.pools.specs.Events.{maxSource, poolCount, maxData, gain}
 use Rattle.pools.specs.Pool.{full}
 use Rattle.slots.specs.Shuffle.{hasRepeat}
 use Rattle.pools.specs.Refusals.{andThen, seedSize, maxBelow, maxTries, maxList, unseeded, spent, eventInput, eventState, eventNumber, requestInput, outputState, requestNumber, seedInput, writeNumber, updateState, updateNumber, drawInput, drawNumber, listInput, shuffleState, shuffleNumber}
-use Rattle.pools.proofs.PoolTests.{neither}
 
 -- ---- two chains, one after the other
 

@@ -9,6 +9,7 @@ use native.Mathlib.Omega.{arith}
 use lib.ListN.{length}
 use borrow.Author.Tests.{ltb-false}
 use Rattle.laws.specs.Lists.{tabulate}
+use Rattle.laws.proofs.Cases.{neither}
 use Rattle.hash.specs.ShaD.{maxPoolLength, poolDigest}
 use Rattle.hash.specs.Answers.{digestWithin}
 use Rattle.hash.specs.declared.hasher.Hasher.{Hasher}
@@ -16,11 +17,6 @@ use Rattle.hash.proofs.Laws.{digest-within}
 use Rattle.pools.specs.Pool.{tooLong, dirtyTail, strayChain, malformedPool}
 use Rattle.pools.specs.State.{anyPool}
 use Rattle.pools.specs.Collected.{nth}
-
--- a test that fails in both parts
-pub neither : (a b : Bool) → (a || b) ≡ false → (a ≡ false) × (b ≡ false)
-neither true b e = absurd (true≢false e)
-neither false b e = (refl, e)
 
 -- a test that holds of no pool fails at each
 pub none-at : (t : Hasher → Bool) (pools : List Hasher) (i : ℕ) → anyPool t pools ≡ false → i < length pools → t (nth pools i) ≡ false

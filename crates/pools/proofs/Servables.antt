@@ -8,6 +8,7 @@ use native.Mathlib.Omega.{arith}
 use lib.Dec.{lit≤}
 use lib.ListN.{length}
 use borrow.Author.Tests.{le-ltb, ne-eqb}
+use Rattle.laws.proofs.Cases.{neither}
 use Rattle.generator.specs.Counter.{maxCounter}
 use Rattle.generator.specs.Steps.{decode, encode, reseed, blockCount}
 use Rattle.generator.specs.Refusals as Generator
@@ -22,10 +23,6 @@ use Rattle.pools.specs.Collected.{Servable}
 use Rattle.pools.specs.declared.Fortuna.{Fortuna}
 use Rattle.pools.proofs.Acceptance.{OutputPassed, not-spent, request-passed, request-short, write-size, write-passed, update-size, update-passed}
 use Rattle.pools.proofs.Serving.{ready-reseeded, reseeded-count}
-
-neither : (a b : Bool) → (a || b) ≡ false → (a ≡ false) × (b ≡ false)
-neither true b e = (e, cc)
-neither false b e = (refl, e)
 
 first : (a b c d : Bool) → (a || b || c || d) ≡ false → a ≡ false
 first true b c d e = e

@@ -9,7 +9,7 @@ use native.Mathlib.Omega.{arith}
 use lib.Dec.{eqb, ltb}
 use lib.ListN.{length}
 use borrow.Author.Tests.{le-ltb, ne-eqb}
-use Rattle.laws.proofs.Cases.{split}
+use Rattle.laws.proofs.Cases.{split, neither}
 use Rattle.laws.proofs.Lists.{allZero-replicate, sameList-refl}
 use Rattle.laws.proofs.Tabulate.{length-tabulate}
 use Rattle.hash.specs.ShaD.{maxPoolLength, emptyPool}
@@ -31,7 +31,7 @@ use Rattle.pools.specs.Draws.{Drawn, trySize, after, leaving, tries, try
 use Rattle.pools.specs.Tries.{Passing}
 use Rattle.pools.specs.declared.Fortuna.{Fortuna}
 use Rattle.pools.proofs.Acceptance.{not-spent}
-use Rattle.pools.proofs.PoolTests.{neither, none-at, any-tabulate}
+use Rattle.pools.proofs.PoolTests.{none-at, any-tabulate}
 use Rattle.pools.proofs.Serving.{reseeded-count}
 use Rattle.pools.proofs.Servables.{pools-formed, fields-formed}
 use Rattle.pools.proofs.OneReseed.{quiet-after}

@@ -11,7 +11,9 @@ use lib.Dec.{eqb}
 use lib.ListN.{length, getD, set, take, drop, length-drop, take-append-drop}
 use lib.Seq.{ext-getD, getD-drop, getD-take, length-take-le}
 use borrow.Author.Tests.{eq-eqb, eqb-true}
-use Rattle.slots.specs.Shuffle.{countOf, Rearrangement, Distinct}
+use Rattle.laws.specs.Lists.{countOf}
+use Rattle.laws.proofs.Counts.{count-append}
+use Rattle.slots.specs.Shuffle.{Rearrangement, Distinct}
 
 -- a store changes the counts of the entry that goes and the one that comes
 pub count-set : (x : ℕ) (xs : List ℕ) (i a : ℕ) → i < length xs
@@ -20,11 +22,6 @@ unfolding countOf
 count-set x [] i a h = absurd (not-suc-le-zero h)
 count-set x (y ∷ ys) zero a h = omega arith
 count-set x (y ∷ ys) (suc i) a h = let e = count-set x ys i a (le-of-suc-le-suc h) in omega arith
-
-count-append : (x : ℕ) (xs ys : List ℕ) → countOf x (xs ++ ys) ≡ countOf x xs + countOf x ys
-unfolding countOf
-count-append x [] ys = omega arith
-count-append x (y ∷ xs) ys = let e = count-append x xs ys in omega arith
 
 -- an entry is counted, also in the front that holds it
 count-at : (xs : List ℕ) (i : ℕ) → i < length xs → 0 < countOf (getD xs i 0) xs

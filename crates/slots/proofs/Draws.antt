@@ -8,7 +8,8 @@ use native.Mathlib.Nat.{le-of-suc-le-suc, zero-lt-suc, eq-or-lt-of-le}
 use native.Mathlib.Omega.{arith}
 use lib.ListN.{length, getD, take, List·getD-eq-default}
 use lib.Seq.{ext-getD}
-use Rattle.slots.specs.Shuffle.{exchange, shuffledFrom, shuffledBy, DrawsFor, countOf, Rearrangement, Distinct, OnlyDraws, EveryOrder}
+use Rattle.laws.specs.Lists.{countOf}
+use Rattle.slots.specs.Shuffle.{exchange, shuffledFrom, shuffledBy, DrawsFor, Rearrangement, Distinct, OnlyDraws, EveryOrder}
 use Rattle.slots.proofs.Counts.{count-front, found, front-counts, distinct-places}
 use Rattle.slots.proofs.Rearrange.{length-exchange, exchange-first, exchange-other, exchange-rearranges, rearrange-sym, rearrange-trans}
 

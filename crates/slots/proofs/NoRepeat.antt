@@ -11,14 +11,12 @@ use lib.Dec.{eqb}
 use lib.ListN.{length, getD, drop, drop-of-length-le}
 use lib.Seq.{drop-cons}
 use borrow.Author.Tests.{eq-eqb, ne-eqb, eqb-true}
-use Rattle.slots.specs.Shuffle.{countOf, Distinct, isIn, hasRepeat, RepeatLaw}
+use Rattle.laws.specs.Lists.{countOf}
+use Rattle.laws.proofs.Cases.{neither}
+use Rattle.slots.specs.Shuffle.{Distinct, isIn, hasRepeat, RepeatLaw}
 use Rattle.slots.proofs.Counts.{distinct-tail, distinct-once}
 
 -- ---- what the test says
-
-neither : (t u : Bool) → (t || u) ≡ false → (t ≡ false) × (u ≡ false)
-neither true u h = absurd (true≢false h)
-neither false u h = (refl, h)
 
 uncounted-step : (t b : Bool) (n : ℕ) → (t || b) ≡ false → (b ≡ false → n ≡ 0) → cond t 1 0 + n ≡ 0
 uncounted-step true b n h f = absurd (true≢false h)

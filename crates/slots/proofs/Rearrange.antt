@@ -11,7 +11,8 @@ use lib.ListN.{length, getD, set, length-set}
 use lib.Seq.{getD-set-same, getD-set-other}
 use borrow.Author.Tests.{eqb-true, eqb-false}
 use Rattle.laws.proofs.Cases.{by-test}
-use Rattle.slots.specs.Shuffle.{exchange, shuffledFrom, shuffledBy, DrawsFor, countOf, Rearrangement, Rearranges}
+use Rattle.laws.specs.Lists.{countOf}
+use Rattle.slots.specs.Shuffle.{exchange, shuffledFrom, shuffledBy, DrawsFor, Rearrangement, Rearranges}
 use Rattle.slots.proofs.Counts.{count-set}
 
 -- ---- an exchange

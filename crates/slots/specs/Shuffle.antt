@@ -1,12 +1,13 @@
 -- A shuffle by given draws, and rearrangements (02 (i)).
 -- Assumes nothing.
 use mathlib.Core.Path.{_≡_}
-use mathlib.Core.Bool.{Bool, false, cond, _||_}
+use mathlib.Core.Bool.{Bool, false, _||_}
 use mathlib.Core.Logic.{_↔_}
 use mathlib.Core.List.{List, [], _∷_}
-use Prim.Native.Nat.{ℕ, zero, suc, _+_, _-_, _≤_}
+use Prim.Native.Nat.{ℕ, zero, suc, _-_, _≤_}
 use lib.Dec.{eqb}
 use lib.ListN.{length, getD, set}
+use Rattle.laws.specs.Lists.{countOf}
 
 -- the entries at i and j change places
 unfoldable pub exchange : ℕ → ℕ → List ℕ → List ℕ
@@ -28,11 +29,6 @@ DrawsFor zero [] = Unit {0}
 DrawsFor zero (d ∷ draws) = ⊥
 DrawsFor (suc p) [] = ⊥
 DrawsFor (suc p) (d ∷ draws) = (d ≤ suc p) × DrawsFor p draws
-
--- how often x stands in a list
-unfoldable pub countOf : ℕ → List ℕ → ℕ
-countOf x [] = 0
-countOf x (y ∷ ys) = cond (eqb x y) 1 0 + countOf x ys
 
 -- equally long, and each number stands in both equally often
 pub record Rearrangement (xs ys : List ℕ) : Type 0 where
