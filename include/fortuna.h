@@ -1,5 +1,5 @@
-/* Fortuna with its pools, timer and seeds, the generator alone, SHA-256, D and AES-256: the static library fortuna_c,
-   for x86-64. It calls memcpy and memset, and nothing else.
+/* Fortuna with its pools, timer and seeds, the generator alone, SHA-256, D and AES-256, and health tests that tell a
+   stuck noise source: the static library fortuna_c, for x86-64. It calls memcpy and memset, and nothing else.
 
    STATIONS START FRESH AFTER THE UPDATE TO THE 2010 EDITION'S D: call fortuna_new, then fortuna_update with the stored
    seed. Take up no fortuna_state that was kept by a version whose header has fortuna_double_sha256, the name of D then.
@@ -11,9 +11,9 @@
    it to get past that. Once all 32 hold 64 bytes or more, nothing tells: the calls go on, and the keys are those of
    neither edition.
 
-   The caller sees to it that a pointer points to as many bytes, or numbers of a list, as its length says and is not
-   null, not even at length 0, and that a buffer overlaps nothing else that the same call is lent. Then every call
-   returns, and none allocates, keeps a pointer, or reads or changes anything but what it is lent.
+   The caller sees to it that a pointer points to as many bytes, samples, or numbers of a list, as its length says and
+   is not null, not even at length 0, and that a buffer overlaps nothing else that the same call is lent. Then every
+   call returns, and none allocates, keeps a pointer, or reads or changes anything but what it is lent.
 
    One call at a time on a state. A call reads the whole state, works, and stores the whole next state, and nothing in
    the library waits for another call. An event given from an interrupt while a request runs on the same state is
@@ -40,6 +40,8 @@
        fortuna_random_below        50,176
        fortuna_shuffle             50,176
        fortuna_log                266,240
+       fortuna_health_new             256
+       fortuna_health_test            512
 
    The library wipes no memory. After a call copies of the state's key K are left on the stack below the caller, also
    of the K that the next call starts from. Where others may read that memory, wipe it, or run the calls on a stack of
@@ -48,7 +50,8 @@
    Numbers returned: FORTUNA_DONE, or the number of a refusal, the first in the order of the list below where more
    than one applies. After a refusal buffers and state are as before; pools emptied are 0. FORTUNA_NONE_DRAWN differs:
    the call's tries were made, so that the state has advanced, and pools may have been emptied; a list is as before.
-   No call is refused for another reason. */
+   No call is refused for another reason. A sample that fails a health test is no refusal: the number is FORTUNA_DONE,
+   and fortuna_health_passed tells. */
 #ifndef FORTUNA_H
 #define FORTUNA_H
 
@@ -95,7 +98,12 @@ enum {
     /* a counter that would grow above 2^128 - 1, for a draw or a shuffle if it made all its tries */
     FORTUNA_COUNTER_SPENT = 24,
     /* a draw, or one of a shuffle's: no try fell below n */
-    FORTUNA_NONE_DRAWN = 33
+    FORTUNA_NONE_DRAWN = 33,
+    /* a health test: a cutoff below 2 or above 512 */
+    FORTUNA_CUTOFF_RANGE = 34,
+    /* a malformed test state, also where no samples come: a run or a count at or above its cutoff; a count above the
+       samples seen; 512 or more seen; some seen but count or run 0; none seen but first not 0; run 0 but last not 0 */
+    FORTUNA_MALFORMED_HEALTH = 35
 };
 
 /* SHA-256 (FIPS 180-4) of length bytes at data, into 32 bytes at digest.
@@ -271,6 +279,70 @@ fortuna_answer fortuna_shuffle(fortuna_state *state, uint32_t clock, uint16_t *l
    the refusal; after 00 for 02, 03 and 04 a space and the pools emptied in two decimal digits, then, unless n = 0, a
    space and the bytes in capital hexadecimal. Stores as many characters as there is room for, and returns how many. */
 size_t fortuna_log(const uint8_t *log, size_t length, uint8_t *out, size_t room);
+
+/* ---- Health tests of a noise source (NIST SP 800-90B, 4.4.1 and 4.4.2)
+
+   They tell a source that is stuck, or that gives one value too often, before its samples become events. A sample is an
+   unsigned 32-bit reading. Each test has a cutoff C, from 2 to 512:
+
+   - the repetition count test fails at the sample with which the last C samples are equal;
+   - the adaptive proportion test takes the samples in windows of 512, and fails at the sample with which the first of
+     the window has come C times in the window, that first time counted.
+
+   C follows from the entropy that a sample has by estimate and from the rate of false alarms: docs/HEALTH.md has a
+   table, and bin/health works others out. For 1 bit a sample and a rate of 2^-30 they are 31 and 325.
+
+   How to use them:
+
+   - Each source has a state of its own. Samples of two sources in turn would hide that one of them is stuck.
+   - Keep to the same cutoffs as long as a state is carried on; for others begin from fortuna_health_new.
+   - Samples may be cut into calls anywhere. The first that fails is the same, and so is the state left.
+   - Ask fortuna_health_passed and not only for the number: a sample that fails is no refusal.
+   - Test first: samples become events only after the call that they were lent to has passed. Where it has not, none of
+     them does. Those from place on were not found good, those after it not even read, and those just before it may be
+     stuck already. Leave the source out from then on, until somebody has seen to it.
+   - C - 1 equal samples pass, so up to so many of a stuck source can be in events before it is told. With C or more
+     lent at a time, a source that gets stuck between two calls has none there.
+
+   No call here reads or changes a fortuna_state. So whoever reads the samples, an interrupt too, may test them while a
+   call on the station runs. One call at a time on a test state. */
+
+/* The test state of a source, 20 bytes: the last sample, how often it has come in a row, the window's first sample, how
+   often that has come in the window, and how many samples the window has seen. All 0 is the fresh state: no sample was
+   seen. Any values may stand in it; those that no run leaves are refused. */
+typedef struct {
+    uint32_t last;
+    uint32_t run;
+    uint32_t first;
+    uint32_t count;
+    uint32_t seen;
+} fortuna_health;
+
+/* The number, which tests the sample at place fails, and its place, from 0. Without a failing sample, and after a
+   refusal, neither test is set and the place is 0. */
+typedef struct {
+    uint32_t number;
+    bool repetition;
+    bool proportion;
+    size_t place;
+} fortuna_health_answer;
+
+/* The fresh state. */
+fortuna_health fortuna_health_new(void);
+
+/* Tests the length samples at samples, on the state that the caller keeps at state, which they may not overlap. Both
+   tests look at every sample, and one sample can fail both. The first that fails ends the call: its place and the tests
+   are told, nothing after it is read, and the state is fresh again. Otherwise the state goes on to the next call. After
+   512 samples the window's first, count and seen are 0 and the next window begins; run goes on.
+   FORTUNA_DONE, FORTUNA_CUTOFF_RANGE or FORTUNA_MALFORMED_HEALTH. */
+fortuna_health_answer fortuna_health_test(fortuna_health *state, const uint32_t *samples, size_t length,
+                                          uint32_t repetition, uint32_t proportion);
+
+/* Whether the samples may be used: the call was not refused, and none of them failed. */
+static inline bool fortuna_health_passed(fortuna_health_answer a)
+{
+    return a.number == FORTUNA_DONE && !a.repetition && !a.proportion;
+}
 
 #ifdef __cplusplus
 }
