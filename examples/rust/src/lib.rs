@@ -1,4 +1,5 @@
-//! A safe wrapper of the proved Fortuna. include/fortuna.h says what each call does, and how much stack it needs.
+//! A safe wrapper of the proved Fortuna and of the health tests of its noise sources. include/fortuna.h says what each
+//! call does, and how much stack it needs.
 use std::fmt;
 use std::mem::{offset_of, size_of};
 
@@ -19,6 +20,8 @@ pub enum Refusal {
     SlotRange = 31,
     TryRange = 32,
     NoneDrawn = 33,
+    CutoffRange = 34,
+    MalformedHealth = 35,
 }
 
 impl Refusal {
@@ -37,6 +40,8 @@ impl Refusal {
             31 => Refusal::SlotRange,
             32 => Refusal::TryRange,
             33 => Refusal::NoneDrawn,
+            34 => Refusal::CutoffRange,
+            35 => Refusal::MalformedHealth,
             _ => unreachable!("the header has no number {number} for these calls"),
         }
     }
@@ -58,6 +63,8 @@ impl Refusal {
             }
             Refusal::TryRange => "tries outside 1 to 64",
             Refusal::NoneDrawn => "no try gave a value",
+            Refusal::CutoffRange => "a cutoff outside 2 to 512",
+            Refusal::MalformedHealth => "a malformed test state",
         }
     }
 }
@@ -98,6 +105,43 @@ impl From<NotDrawn> for Refusal {
     }
 }
 
+/// The first sample that failed a health test: its place among those that were lent, from 0, and which tests it fails.
+#[derive(Clone, Copy, Debug, PartialEq, Eq)]
+pub struct Failure {
+    pub place: usize,
+    pub repetition: bool,
+    pub proportion: bool,
+}
+
+impl fmt::Display for Failure {
+    fn fmt(&self, f: &mut fmt::Formatter) -> fmt::Result {
+        let tests = match (self.repetition, self.proportion) {
+            (true, true) => "both tests",
+            (true, false) => "the repetition count test",
+            _ => "the adaptive proportion test",
+        };
+        write!(f, "sample {} fails {tests}", self.place)
+    }
+}
+
+/// Why samples may not be used: one of them failed, or the call was refused.
+#[derive(Clone, Copy, Debug, PartialEq, Eq)]
+pub enum NotPassed {
+    Failed(Failure),
+    Refused(Refusal),
+}
+
+impl fmt::Display for NotPassed {
+    fn fmt(&self, f: &mut fmt::Formatter) -> fmt::Result {
+        match self {
+            NotPassed::Failed(failure) => failure.fmt(f),
+            NotPassed::Refused(refusal) => refusal.fmt(f),
+        }
+    }
+}
+
+impl std::error::Error for NotPassed {}
+
 #[repr(C)]
 struct Generator {
     key: [u8; 32],
@@ -134,10 +178,30 @@ struct Draw {
     value: u64,
 }
 
-// The sizes that the header's structs have in C, and the place of the state's last field.
+#[repr(C)]
+struct HealthState {
+    last: u32,
+    run: u32,
+    first: u32,
+    count: u32,
+    seen: u32,
+}
+
+#[repr(C)]
+struct HealthAnswer {
+    number: u32,
+    repetition: bool,
+    proportion: bool,
+    place: usize,
+}
+
+// The sizes that the header's structs have in C, and the places of the fields that stand last or behind smaller ones.
 const _: () = assert!(size_of::<Pool>() == 104 && size_of::<State>() == 3392);
 const _: () = assert!(size_of::<Answer>() == 8 && size_of::<Draw>() == 16);
 const _: () = assert!(offset_of!(State, key_requests) == 3386);
+const _: () = assert!(size_of::<HealthState>() == 20 && offset_of!(HealthState, seen) == 16);
+const _: () = assert!(size_of::<HealthAnswer>() == 16 && offset_of!(HealthAnswer, place) == 8);
+const _: () = assert!(offset_of!(HealthAnswer, proportion) == 5);
 
 extern "C" {
     fn fortuna_sha_d256(data: *const u8, length: usize, digest: *mut [u8; 32]) -> u32;
@@ -155,6 +219,14 @@ extern "C" {
     fn fortuna_random_below(state: *mut State, clock: u32, n: u64, tries: u32) -> Draw;
     fn fortuna_shuffle(state: *mut State, clock: u32, list: *mut u16, length: usize) -> Answer;
     fn fortuna_log(log: *const u8, length: usize, out: *mut u8, room: usize) -> usize;
+    fn fortuna_health_new() -> HealthState;
+    fn fortuna_health_test(
+        state: *mut HealthState,
+        samples: *const u32,
+        length: usize,
+        repetition: u32,
+        proportion: u32,
+    ) -> HealthAnswer;
 }
 
 /// Fortuna with its pools, timer and seeds. It is not `Clone`: two copies would give the same bytes.
@@ -170,8 +242,8 @@ pub struct Fortuna {
     state: State,
 }
 
-// In each call below pointer and length are those of one slice, which lasts for the call and overlaps nothing else, nor
-// the state. The pointer of an empty slice is not null either.
+// In each call below, those of Health too, pointer and length are those of one slice, which lasts for the call and
+// overlaps nothing else, nor the state. The pointer of an empty slice is not null either.
 impl Fortuna {
     /// Unseeded, with empty pools.
     #[allow(clippy::new_without_default)]
@@ -226,6 +298,46 @@ impl Fortuna {
     /// as 1.
     pub fn key_requests(&self) -> u16 {
         self.state.key_requests
+    }
+}
+
+/// The health tests of a noise source (NIST SP 800-90B, 4.4.1 and 4.4.2), which tell a stuck source before its samples
+/// become events. Each source has a value of its own, and the same cutoffs as long as that value is used. The header
+/// says how to choose them, and which samples may become events.
+pub struct Health {
+    state: HealthState,
+}
+
+impl Health {
+    /// No sample was seen.
+    #[allow(clippy::new_without_default)]
+    pub fn new() -> Health {
+        Health {
+            state: unsafe { fortuna_health_new() },
+        }
+    }
+
+    /// Tests samples, which may be cut into calls anywhere, with the cutoffs of the repetition count test and of the
+    /// adaptive proportion test, 2 to 512. The first that fails ends the call, and the tests begin anew after it. Only
+    /// after `Ok` may the samples become events: a failure is an error here, so that `?` can't pass over it.
+    pub fn test(
+        &mut self,
+        samples: &[u32],
+        repetition: u32,
+        proportion: u32,
+    ) -> Result<(), NotPassed> {
+        let (at, length) = (samples.as_ptr(), samples.len());
+        let answer =
+            unsafe { fortuna_health_test(&mut self.state, at, length, repetition, proportion) };
+        match answer.number {
+            0 if answer.repetition || answer.proportion => Err(NotPassed::Failed(Failure {
+                place: answer.place,
+                repetition: answer.repetition,
+                proportion: answer.proportion,
+            })),
+            0 => Ok(()),
+            number => Err(NotPassed::Refused(Refusal::from_number(number))),
+        }
     }
 }
 

@@ -1,14 +1,21 @@
 //! A digitiser from start to stop: the stored seed goes in and its successor is stored before any
-//! key is drawn, noise goes in as events, link keys, a radio slot and the order of a polling list
-//! come out. Noise, clock and flash page are stand-ins, so that each run prints the same.
+//! key is drawn, noise is tested and goes in as events, link keys, a radio slot and the order of a
+//! polling list come out. One source gets stuck: the health tests tell before its stuck readings
+//! become an event. Noise, clock and flash page are stand-ins, so that each run prints the same.
 //!
 //! One call at a time on a state: `main` owns it, and each call borrows it alone. Noise from interrupts or other
 //! threads would come through a queue.
-use fortuna::{run_log, sha_d256, Drawn, Fortuna, Refusal};
+use fortuna::{run_log, sha_d256, Drawn, Fortuna, Health, NotPassed, Refusal};
 
 /// A source may be any number up to 65,535.
 const SOURCES: [u32; 3] = [1, 2, 900];
 const TURNS: u32 = 64;
+const READINGS: usize = 32;
+/// The cutoffs of the health tests for readings with 1 bit of entropy each, by estimate, and false alarms at a rate of
+/// 2^-30: docs/HEALTH.md has these and others. A turn has more readings than the first, so that a source which is stuck
+/// from a turn's start on is told in that turn.
+const REPETITION: u32 = 31;
+const PROPORTION: u32 = 325;
 const POOLS: u32 = 32;
 const SLOTS: u64 = 100;
 const TRIES: u32 = 64;
@@ -21,9 +28,19 @@ fn stored_seed() -> [u8; 64] {
     seed
 }
 
-/// Stands in for samples of a sensor.
-fn sample(source: u32, turn: u32) -> [u8; 16] {
-    std::array::from_fn(|i| (89 * source + 31 * turn + 7 * i as u32) as u8)
+/// A noise source: its number, its health tests, which no other source shares, and whether it failed them.
+struct Source {
+    number: u32,
+    health: Health,
+    left_out: bool,
+}
+
+/// Stands in for a sensor: source 2 gets stuck, and repeats one reading from turn 40 on.
+fn readings(source: u32, turn: u32) -> [u32; READINGS] {
+    if source == 2 && turn >= 40 {
+        return [1000; READINGS];
+    }
+    std::array::from_fn(|i| 89 * source + 31 * turn + 7 * i as u32)
 }
 
 fn hexadecimal(bytes: &[u8]) -> String {
@@ -36,14 +53,44 @@ fn show_edition() -> Result<(), Refusal> {
     Ok(())
 }
 
-/// Each source goes round the pools by itself.
+/// Whether readings may become an event. After a failing sample none of those that it came with is used, nor any later
+/// ones: the source is left out until somebody has seen to it.
+fn healthy(source: &mut Source, turn: u32, readings: &[u32]) -> Result<bool, Refusal> {
+    if source.left_out {
+        return Ok(false);
+    }
+    match source.health.test(readings, REPETITION, PROPORTION) {
+        Ok(()) => Ok(true),
+        Err(NotPassed::Failed(failure)) => {
+            println!(
+                "source {}, turn {turn}: {failure}, source left out",
+                source.number
+            );
+            source.left_out = true;
+            Ok(false)
+        }
+        Err(NotPassed::Refused(refusal)) => Err(refusal),
+    }
+}
+
+/// The event is the low byte of each reading, where the noise is. Each source goes round the pools by itself.
 fn gather_noise(f: &mut Fortuna) -> Result<(), Refusal> {
+    let mut sources = SOURCES.map(|number| Source {
+        number,
+        health: Health::new(),
+        left_out: false,
+    });
+    let mut count = 0;
     for turn in 0..TURNS {
-        for source in SOURCES {
-            f.event(source, turn % POOLS, &sample(source, turn))?;
+        for source in &mut sources {
+            let readings = readings(source.number, turn);
+            if healthy(source, turn, &readings)? {
+                f.event(source.number, turn % POOLS, &readings.map(|r| r as u8))?;
+                count += 1;
+            }
         }
     }
-    println!("{} events taken", SOURCES.len() as u32 * TURNS);
+    println!("{count} events taken");
     Ok(())
 }
 
@@ -61,8 +108,15 @@ fn draw_key(f: &mut Fortuna, clock: u32) {
 
 /// A pool that there is not: the call says so, and the state stays as it was.
 fn misplace_event(f: &mut Fortuna) {
-    if let Err(refusal) = f.event(SOURCES[0], POOLS, &sample(SOURCES[0], 0)) {
+    if let Err(refusal) = f.event(SOURCES[0], POOLS, &[0; READINGS]) {
         println!("event for pool {POOLS}: {refusal}");
+    }
+}
+
+/// With a cutoff of 1 every sample would fail: the call says that there is none.
+fn misjudge_cutoff() {
+    if let Err(not_passed) = Health::new().test(&[0; READINGS], 1, PROPORTION) {
+        println!("cutoff 1: {not_passed}");
     }
 }
 
@@ -120,6 +174,7 @@ fn main() -> Result<(), Refusal> {
     draw_key(&mut f, 1000);
     draw_key(&mut f, 1050);
     misplace_event(&mut f);
+    misjudge_cutoff();
     draw_slot(&mut f, 1200);
     order_stations(&mut f, 1250)?;
     show_staleness(&f);
