@@ -1,6 +1,7 @@
-/* A digitiser from start to stop: the stored seed goes in and its successor is stored before any key is drawn, noise
-   goes in as events, link keys, a radio slot and the order of a polling list come out. Noise, clock and flash page are
-   stand-ins, so each run prints the same.
+/* A digitiser from start to stop: the stored seed goes in and its successor is stored before any key is drawn, noise is
+   tested and goes in as events, link keys, a radio slot and the order of a polling list come out. One source gets
+   stuck: the health tests tell before its stuck readings become an event. Noise, clock and flash page are stand-ins, so
+   each run prints the same.
 
    One call at a time on a state: here the task that runs main owns the state and makes every call. Interrupts only put
    noise into a ring buffer, and the owner takes it from there between its other calls. */
@@ -10,11 +11,23 @@
 #include <stdio.h>
 #include <stdlib.h>
 
-enum { SOURCES = 3, TURNS = 64, DATA = 16, POOLS = 32, SEED = 64, KEY = 32, SLOTS = 100, TRIES = 64, STATIONS = 8 };
+enum { SOURCES = 3, TURNS = 64, READINGS = 32, POOLS = 32, SEED = 64, KEY = 32, SLOTS = 100, TRIES = 64, STATIONS = 8 };
 enum { RING = 16 }; /* a power of two, so that the counts below may wrap */
 
-/* A source may be any number up to 65,535. */
-static const uint32_t sources[SOURCES] = {1, 2, 900};
+/* The cutoffs of the health tests for readings with 1 bit of entropy each, by estimate, and false alarms at a rate of
+   2^-30: docs/HEALTH.md has these and others. A turn has more readings than the first, so that a source which is stuck
+   from a turn's start on is told in that turn. */
+enum { REPETITION = 31, PROPORTION = 325 };
+
+/* A noise source: its number, which may be any up to 65,535, the state of its health tests, and whether it failed. Each
+   source has a test state of its own. */
+typedef struct {
+    uint32_t number;
+    fortuna_health health;
+    bool left_out;
+} source;
+
+static source sources[SOURCES] = {{.number = 1}, {.number = 2}, {.number = 900}};
 
 /* Stands in for the page of flash memory that keeps the seed. */
 static uint8_t flash[SEED] = "a seed from the workshop, other bytes for each digitiser";
@@ -48,6 +61,10 @@ static const char *reason(uint32_t number)
         return "the counter is spent";
     case FORTUNA_NONE_DRAWN:
         return "no try gave a value";
+    case FORTUNA_CUTOFF_RANGE:
+        return "a cutoff outside 2 to 512";
+    case FORTUNA_MALFORMED_HEALTH:
+        return "a malformed test state";
     default:
         return "a number that these calls don't have";
     }
@@ -78,18 +95,20 @@ static void show_edition(void)
     print_bytes(digest, sizeof digest);
 }
 
-/* Stands in for samples of a sensor. */
-static void sample(uint32_t source, uint32_t turn, uint8_t data[DATA])
+/* Stands in for a sensor: source 2 gets stuck, and repeats one reading from turn 40 on. */
+static uint32_t reading(uint32_t number, uint32_t turn, uint32_t i)
 {
-    for (uint32_t i = 0; i < DATA; i++)
-        data[i] = (uint8_t)(89 * source + 31 * turn + 7 * i);
+    if (number == 2 && turn >= 40)
+        return 1000;
+    return 89 * number + 31 * turn + 7 * i;
 }
 
 /* Noise on its way from the interrupt to the owner of the state. The interrupt alone moves written, and the owner alone
    moves taken, so neither waits for the other. Interrupts that can interrupt each other need a ring each. */
 typedef struct {
-    uint32_t source, pool;
-    uint8_t data[DATA];
+    source *from;
+    uint32_t turn;
+    uint32_t readings[READINGS];
 } noise;
 
 static noise ring[RING];
@@ -97,28 +116,63 @@ static atomic_uint written, taken;
 
 /* Stands in for an interrupt. It leaves the state alone: while a call of the owner runs, an event given here would be
    answered FORTUNA_DONE and lost. Noise that finds the ring full is dropped; more will come. */
-static void interrupt(uint32_t source, uint32_t turn)
+static void interrupt(source *from, uint32_t turn)
 {
     const unsigned at = atomic_load_explicit(&written, memory_order_relaxed);
     if (at - atomic_load_explicit(&taken, memory_order_acquire) == RING)
         return;
     noise *n = &ring[at % RING];
-    n->source = source;
-    n->pool = turn % POOLS; /* each source goes round the pools by itself */
-    sample(source, turn, n->data);
+    n->from = from;
+    n->turn = turn;
+    for (uint32_t i = 0; i < READINGS; i++)
+        n->readings[i] = reading(from->number, turn, i);
     atomic_store_explicit(&written, at + 1, memory_order_release);
 }
 
-/* The owner gives the noise that waits to the state, and returns how many events that were. */
+static const char *failed_tests(fortuna_health_answer a)
+{
+    if (a.repetition && a.proportion)
+        return "both tests";
+    return a.repetition ? "the repetition count test" : "the adaptive proportion test";
+}
+
+/* Whether the readings may become an event. A failing sample is no refusal, so the number alone would not tell. None of
+   the readings that it came with is used, nor any later ones: the source is left out until somebody has seen to it. */
+static bool healthy(const noise *n)
+{
+    source *s = n->from;
+    if (s->left_out)
+        return false;
+    fortuna_health_answer a = fortuna_health_test(&s->health, n->readings, READINGS, REPETITION, PROPORTION);
+    must("health test", a.number);
+    if (fortuna_health_passed(a))
+        return true;
+    printf("source %u, turn %u: sample %zu fails %s, source left out\n", s->number, n->turn, a.place, failed_tests(a));
+    s->left_out = true;
+    return false;
+}
+
+/* The low byte of each reading, where the noise is. Each source goes round the pools by itself. */
+static void give_event(fortuna_state *f, const noise *n)
+{
+    uint8_t data[READINGS];
+    for (size_t i = 0; i < READINGS; i++)
+        data[i] = (uint8_t)n->readings[i];
+    must("event", fortuna_event(f, n->from->number, n->turn % POOLS, data, sizeof data));
+}
+
+/* The owner tests the noise that waits, gives what passes to the state, and returns how many events that were. */
 static int take_noise(fortuna_state *f)
 {
     int count = 0;
     unsigned at = atomic_load_explicit(&taken, memory_order_relaxed);
     while (at != atomic_load_explicit(&written, memory_order_acquire)) {
         const noise *n = &ring[at % RING];
-        must("event", fortuna_event(f, n->source, n->pool, n->data, sizeof n->data));
+        if (healthy(n)) {
+            give_event(f, n);
+            count++;
+        }
         atomic_store_explicit(&taken, ++at, memory_order_release);
-        count++;
     }
     return count;
 }
@@ -126,9 +180,11 @@ static int take_noise(fortuna_state *f)
 static void gather_noise(fortuna_state *f)
 {
     int count = 0;
+    for (size_t i = 0; i < SOURCES; i++)
+        sources[i].health = fortuna_health_new();
     for (uint32_t turn = 0; turn < TURNS; turn++) {
         for (size_t i = 0; i < SOURCES; i++)
-            interrupt(sources[i], turn);
+            interrupt(&sources[i], turn);
         count += take_noise(f);
     }
     printf("%d events taken\n", count);
@@ -150,11 +206,20 @@ static void draw_key(fortuna_state *f, uint32_t clock)
 /* A pool that there is not: the call says so, and the state stays as it was. */
 static void misplace_event(fortuna_state *f)
 {
-    uint8_t data[DATA];
-    sample(sources[0], 0, data);
-    uint32_t number = fortuna_event(f, sources[0], POOLS, data, sizeof data);
+    const uint8_t data[READINGS] = {0};
+    uint32_t number = fortuna_event(f, sources[0].number, POOLS, data, sizeof data);
     if (number != FORTUNA_DONE)
         printf("event for pool %d: refused, %u (%s)\n", POOLS, number, reason(number));
+}
+
+/* With a cutoff of 1 every sample would fail: the call says that there is none, and the test state stays as it was. */
+static void misjudge_cutoff(void)
+{
+    const uint32_t readings[READINGS] = {0};
+    fortuna_health h = fortuna_health_new();
+    fortuna_health_answer a = fortuna_health_test(&h, readings, READINGS, 1, PROPORTION);
+    if (!fortuna_health_passed(a))
+        printf("cutoff 1: refused, %u (%s)\n", a.number, reason(a.number));
 }
 
 /* A radio slot, or why there is none: after FORTUNA_NONE_DRAWN a caller can draw again, from the state that is left. */
@@ -214,6 +279,7 @@ int main(void)
     draw_key(&f, 1000);
     draw_key(&f, 1050);
     misplace_event(&f);
+    misjudge_cutoff();
     draw_slot(&f, 1200);
     order_stations(&f, 1250);
     show_staleness(&f);

@@ -1,5 +1,6 @@
 #!/usr/bin/env python3
-"""What the programs in examples/ must print, worked out by station.py and, for the log, logbook.py.
+"""What the programs in examples/ must print, worked out by station.py and, for the log, logbook.py. Which reading fails
+a health test is worked out here, from all readings of the source at once: no test state is kept.
 
     tests/independent/examples.py                  prints it
     tests/independent/examples.py --check FILE     exits 1 where FILE differs"""
@@ -12,11 +13,46 @@ import station
 
 SEED = b"a seed from the workshop, other bytes for each digitiser".ljust(64, b"\0")
 SOURCES = (1, 2, 900)
+TURNS, READINGS = 64, 32
+STUCK_SOURCE, STUCK_TURN = 2, 40
+REPETITION, PROPORTION, WINDOW = 31, 325, 512
 LOG = b"010700A1B2\n050384003C\n02000000640010\nFF\n"
 
 
-def sample(source, turn):
-    return bytes((89 * source + 31 * turn + 7 * i) % 256 for i in range(16))
+def readings(source, turn):
+    if source == STUCK_SOURCE and turn >= STUCK_TURN:
+        return [1000] * READINGS
+    return [89 * source + 31 * turn + 7 * i for i in range(READINGS)]
+
+
+def failed_tests(day, k):
+    """The tests that a source's reading k fails: the last C are equal; the first of its window has come C times."""
+    last = day[max(0, k + 1 - REPETITION) : k + 1]
+    window = day[k - k % WINDOW : k + 1]
+    repetition = last == [day[k]] * REPETITION
+    proportion = window.count(window[0]) >= PROPORTION
+    if repetition and proportion:
+        return "both tests"
+    return "the repetition count test" if repetition else "the adaptive proportion test" if proportion else None
+
+
+def failures():
+    """The first reading of a source that fails, as its turn, the source, the place in the turn, and the tests."""
+    for source in SOURCES:
+        day = [reading for turn in range(TURNS) for reading in readings(source, turn)]
+        for k in range(len(day)):
+            if tests := failed_tests(day, k):
+                yield k // READINGS, source, k % READINGS, tests
+                break
+
+
+def events(failed):
+    """Those of the day, as source, pool and data: a source gives none from the turn on in which it fails."""
+    ends = {source: turn for turn, source, _, _ in failed}
+    for turn in range(TURNS):
+        for source in SOURCES:
+            if turn < ends.get(source, TURNS):
+                yield source, turn % 32, bytes(reading % 256 for reading in readings(source, turn))
 
 
 def key_line(clock, outcome):
@@ -29,17 +65,21 @@ def lines():
     yield f"key at 0 ms: refused, {early.number} (no seed and too little noise)"
     updated = station.update(early.next, 10, SEED)
     yield f"seed updated: {updated.buffer.hex()}"
+    failed = sorted(failures())
+    for turn, source, place, tests in failed:
+        yield f"source {source}, turn {turn}: sample {place} fails {tests}, source left out"
+    taken = list(events(failed))
     state = updated.next
-    for turn in range(64):
-        for source in SOURCES:
-            state = station.event(state, source, turn % 32, sample(source, turn)).next
-    yield "192 events taken"
+    for event in taken:
+        state = station.event(state, *event).next
+    yield f"{len(taken)} events taken"
     first = station.request(state, 1000, bytes(32))
     yield key_line(1000, first)
     second = station.request(first.next, 1050, bytes(32))
     yield key_line(1050, second)
-    refused = station.event(second.next, SOURCES[0], 32, sample(SOURCES[0], 0))
+    refused = station.event(second.next, SOURCES[0], 32, bytes(READINGS))
     yield f"event for pool 32: refused, {refused.number} (no such pool)"
+    yield "cutoff 1: refused, 34 (a cutoff outside 2 to 512)"
     slot = station.draw(refused.next, 1200, 100, 64)
     yield f"slot at 1200 ms, pools emptied {slot.emptied}: {slot.buffer}"
     shuffled = station.shuffle(slot.next, 1250, tuple(range(1, 9)))
