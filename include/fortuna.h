@@ -309,7 +309,7 @@ size_t fortuna_log(const uint8_t *log, size_t length, uint8_t *out, size_t room)
 
 /* The test state of a source, 20 bytes: the last sample, how often it has come in a row, the window's first sample, how
    often that has come in the window, and how many samples the window has seen. All 0 is the fresh state: no sample was
-   seen. Any values may stand in it; those that no run leaves are refused. */
+   seen. Any values may stand in it; FORTUNA_MALFORMED_HEALTH says which are refused. */
 typedef struct {
     uint32_t last;
     uint32_t run;
