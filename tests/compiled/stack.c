@@ -10,7 +10,7 @@
 #include <stdlib.h>
 #include <string.h>
 
-enum { STACK = 1 << 20, PAINT = 0xa5, LIST = 256, SEED = 64, ROOM = 1 << 20 };
+enum { STACK = 1 << 20, PAINT = 0xa5, LIST = 256, SEED = 64, ROOM = 1 << 20, SAMPLES = 1000 };
 
 static uint8_t *stack;
 static fortuna_state state;
@@ -18,6 +18,8 @@ static fortuna_generator generator;
 static fortuna_aes256_key expanded;
 static uint8_t data[ROOM], out[ROOM], seed[SEED];
 static uint16_t list[LIST];
+static fortuna_health health;
+static uint32_t samples[SAMPLES];
 static char lines[1 << 16];
 static size_t line_count;
 
@@ -56,6 +58,26 @@ static void fresh(void)
     state = fortuna_new();
 }
 
+/* Samples that pass both tests, past the end of a window. */
+static void varied(void)
+{
+    health = fortuna_health_new();
+    for (uint32_t i = 0; i < SAMPLES; i++)
+        samples[i] = i;
+}
+
+static void stuck(void)
+{
+    varied();
+    memset(samples, 0, sizeof samples);
+}
+
+static void malformed_health(void)
+{
+    varied();
+    health.seen = 512;
+}
+
 /* ---- the calls */
 
 enum { CLOCK = 9999 };
@@ -75,6 +97,9 @@ static void update(void) { fortuna_update(&state, CLOCK, seed, sizeof seed); }
 static void write_seed(void) { fortuna_write(&state, CLOCK, seed, sizeof seed); }
 static void draw(void) { fortuna_random_below(&state, CLOCK, 900, 64); }
 static void shuffle(void) { fortuna_shuffle(&state, CLOCK, list, LIST); }
+static void health_new(void) { health = fortuna_health_new(); }
+static void health_test(void) { fortuna_health_test(&health, samples, SAMPLES, 31, 325); }
+static void health_cutoff(void) { fortuna_health_test(&health, samples, SAMPLES, 31, 513); }
 static void run_log(void) { fortuna_log((const uint8_t *)lines, line_count, out, sizeof out); }
 
 /* Events of several lengths, so that the pool's tail is filled, passed over and met exactly. */
@@ -144,6 +169,11 @@ static const struct {
     {"fortuna_shuffle", seeded, shuffle, true},
     {"fortuna_shuffle", due, shuffle, true},
     {"fortuna_log", seeded, run_log, false},
+    {"fortuna_health_new", seeded, health_new, false},
+    {"fortuna_health_test", varied, health_test, false},
+    {"fortuna_health_test", varied, health_cutoff, false},
+    {"fortuna_health_test", stuck, health_test, false},
+    {"fortuna_health_test", malformed_health, health_test, false},
 };
 enum { CASES = sizeof cases / sizeof *cases };
 
