@@ -295,14 +295,16 @@ size_t fortuna_log(const uint8_t *log, size_t length, uint8_t *out, size_t room)
    How to use them:
 
    - Each source has a state of its own. Samples of two sources in turn would hide that one of them is stuck.
+   - Lend as samples what becomes the event. Where that is the low bits of a reading, lend those alone: high bits that
+     move with the ground would hide that the low ones are stuck.
    - Keep to the same cutoffs as long as a state is carried on; for others begin from fortuna_health_new.
    - Samples may be cut into calls anywhere. The first that fails is the same, and so is the state left.
    - Ask fortuna_health_passed and not only for the number: a sample that fails is no refusal.
    - Test first: samples become events only after the call that they were lent to has passed. Where it has not, none of
      them does. Those from place on were not found good, those after it not even read, and those just before it may be
      stuck already. Leave the source out from then on, until somebody has seen to it.
-   - C - 1 equal samples pass, so up to so many of a stuck source can be in events before it is told. With C or more
-     lent at a time, a source that gets stuck between two calls has none there.
+   - C - 1 equal samples pass the repetition count test, so up to so many of a stuck source can be in events before it
+     is told. With C or more lent at a time, a source that gets stuck between two calls has none there.
 
    No call here reads or changes a fortuna_state. So whoever reads the samples, an interrupt too, may test them while a
    call on the station runs. One call at a time on a test state. */

@@ -95,12 +95,13 @@ static void show_edition(void)
     print_bytes(digest, sizeof digest);
 }
 
-/* Stands in for a sensor: source 2 gets stuck, and repeats one reading from turn 40 on. */
+/* Stands in for a sensor, of whose readings the low 8 bits are used. Source 2 gets stuck: it repeats one reading from
+   turn 40 on. */
 static uint32_t reading(uint32_t number, uint32_t turn, uint32_t i)
 {
     if (number == 2 && turn >= 40)
-        return 1000;
-    return 89 * number + 31 * turn + 7 * i;
+        return 200;
+    return (89 * number + 31 * turn + 7 * i) % 256;
 }
 
 /* Noise on its way from the interrupt to the owner of the state. The interrupt alone moves written, and the owner alone
@@ -152,7 +153,7 @@ static bool healthy(const noise *n)
     return false;
 }
 
-/* The low byte of each reading, where the noise is. Each source goes round the pools by itself. */
+/* What goes in is what was tested: a byte for each reading. Each source goes round the pools by itself. */
 static void give_event(fortuna_state *f, const noise *n)
 {
     uint8_t data[READINGS];

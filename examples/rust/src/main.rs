@@ -35,12 +35,13 @@ struct Source {
     left_out: bool,
 }
 
-/// Stands in for a sensor: source 2 gets stuck, and repeats one reading from turn 40 on.
+/// Stands in for a sensor, of whose readings the low 8 bits are used. Source 2 gets stuck: it repeats one reading from
+/// turn 40 on.
 fn readings(source: u32, turn: u32) -> [u32; READINGS] {
     if source == 2 && turn >= 40 {
-        return [1000; READINGS];
+        return [200; READINGS];
     }
-    std::array::from_fn(|i| 89 * source + 31 * turn + 7 * i as u32)
+    std::array::from_fn(|i| (89 * source + 31 * turn + 7 * i as u32) % 256)
 }
 
 fn hexadecimal(bytes: &[u8]) -> String {
@@ -73,7 +74,7 @@ fn healthy(source: &mut Source, turn: u32, readings: &[u32]) -> Result<bool, Ref
     }
 }
 
-/// The event is the low byte of each reading, where the noise is. Each source goes round the pools by itself.
+/// What goes in is what was tested: a byte for each reading. Each source goes round the pools by itself.
 fn gather_noise(f: &mut Fortuna) -> Result<(), Refusal> {
     let mut sources = SOURCES.map(|number| Source {
         number,
