@@ -41,7 +41,7 @@
        fortuna_shuffle             50,176
        fortuna_log                266,240
        fortuna_health_new             256
-       fortuna_health_test            512
+       fortuna_health_test            256
 
    The library wipes no memory. After a call copies of the state's key K are left on the stack below the caller, also
    of the K that the next call starts from. Where others may read that memory, wipe it, or run the calls on a stack of
