@@ -122,9 +122,9 @@ start-next k h = omega arith
 start-stays : (k : ℕ) → ((k - windowStart k) + 1 ≡ 512 → ⊥) → windowStart (suc k) ≡ windowStart k
 unfolding windowSize
 start-stays k h =
-    by-test (ltb (k - 512 * (k / 512) + 1) 512) (512 * (suc k / 512) ≡ 512 * (k / 512))
-    (λ t. let l = ltb-true (k - 512 * (k / 512) + 1) 512 t in omega arith)
-    (λ t. let l = ltb-false (k - 512 * (k / 512) + 1) 512 t in absurd (h (omega arith)))
+    by-test (ltb (k - windowStart k + 1) 512) (windowStart (suc k) ≡ windowStart k)
+    (λ t. let l = ltb-true (k - windowStart k + 1) 512 t in omega arith)
+    (λ t. let l = ltb-false (k - windowStart k + 1) 512 t in absurd (h (omega arith)))
 
 module _ (samples : List ℕ) where
   -- the state's fields, also of no samples
@@ -221,7 +221,7 @@ module _ (samples : List ℕ) where
         rw (q, l, head-is w (suc k) (omega (arith, start-below k)), run-closed k, first-closed, count-closed, add-one k)
 
     noted-closed : noted s y ≡ stateAfter samples (suc k)
-    unfolding noted windowSize
+    unfolding noted runAfter windowSize
     noted-closed =
         split (λ (t : HealthState). t ≡ stateAfter samples (suc k)) (eqb (s .seen + 1) 512)
         (λ t. full-next (eqb-true (s .seen + 1) 512 t)) (λ t. more-next (eqb-false (s .seen + 1) 512 t))
@@ -241,26 +241,36 @@ slice-grows a b c v samples h g l =
     ∙ drop-append-le a (take b samples) (take (c - b) (drop b samples)) (rw (length-take-le b samples l) h) in
     rw (e, count-append v (slice a b samples) (take (c - b) (drop b samples))) (omega arith)
 
-module _ (cutoff : ℕ) (samples : List ℕ) (n : ℕ) (whole : 512 * (n + 1) ≤ length samples) where
-  window-within : (k : ℕ) → k / 512 ≡ n → cutoff ≤ countOf (sampleAt samples (512 * (k / 512))) (slice (512 * (k / 512)) (k + 1) samples)
-      → cutoff ≤ countOf (sampleAt samples (512 * n)) (slice (512 * n) (512 * (n + 1)) samples)
+-- the places of a window, and its last
+window-of : (k n : ℕ) → k / windowSize ≡ n → windowStart k ≡ windowSize * n
+unfolding windowSize
+window-of k n e = omega arith
+
+last-of : (n : ℕ) → (windowSize * n + 511) / windowSize ≡ n
+unfolding windowSize
+last-of n = omega arith
+
+module _ (cutoff : ℕ) (samples : List ℕ) (n : ℕ) (whole : windowSize * (n + 1) ≤ length samples) where
+  abbrev wholeCount : ℕ
+  wholeCount = countOf (sampleAt samples (windowSize * n)) (slice (windowSize * n) (windowSize * (n + 1)) samples)
+
+  window-within : (k : ℕ) → k / windowSize ≡ n → cutoff ≤ countAt samples k → cutoff ≤ wholeCount
+  unfolding windowSize
   window-within k e h =
       let g = slice-grows (512 * n) (k + 1) (512 * (n + 1)) (sampleAt samples (512 * n)) samples (omega arith) (omega arith) (omega arith) in
-      let f : cutoff ≤ countOf (sampleAt samples (512 * n)) (slice (512 * n) (k + 1) samples) = rw e at h in
+      let f : cutoff ≤ countOf (sampleAt samples (512 * n)) (slice (512 * n) (k + 1) samples) = rw (window-of k n e) at h in
       omega arith
 
-  window-last : cutoff ≤ countOf (sampleAt samples (512 * n)) (slice (512 * n) (512 * (n + 1)) samples)
-      → cutoff ≤ countOf (sampleAt samples (512 * ((512 * n + 511) / 512))) (slice (512 * ((512 * n + 511) / 512)) (512 * n + 511 + 1) samples)
+  window-last : cutoff ≤ wholeCount → cutoff ≤ countAt samples (windowSize * n + 511)
+  unfolding windowSize
   window-last h =
-      let e : (512 * n + 511) / 512 ≡ n = omega arith in
       let q : 512 * n + 511 + 1 ≡ 512 * (n + 1) = omega arith in
-      rw (e, q) h
+      rw (window-of (512 * n + 511) n (last-of n), q) h
 
 pub windows : WindowLaw
-unfolding windowSize
 windows cutoff samples n whole = (
   λ h. window-within cutoff samples n whole (h .0) (h .1) (h .2),
-  λ h. (512 * n + 511, omega arith, window-last cutoff samples n whole h),
+  λ h. (windowSize * n + 511, last-of n, window-last cutoff samples n whole h),
 )
 
 -- ---- the state after samples

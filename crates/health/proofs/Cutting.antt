@@ -96,7 +96,7 @@ unfolding outcomeOf
 passed-outcome t = refl
 
 pub failed-outcome : (place : ℕ) (a b : Bool) → outcomeOf (failed place a b) ≡ record { answer = Failed place a b; next = fresh }
-unfolding outcomeOf failedAt
+unfolding outcomeOf failedAt fresh
 failed-outcome place a b = refl
 
 follow-passed : (t : HealthState) (f : HealthState → Result) → follow (passed t) f ≡ f t
@@ -167,7 +167,7 @@ cutting r p s (part ∷ parts) =
 module _ (r p : ℕ) (a : outOfRange r ≡ false) (b : outOfRange p ≡ false) where
   result-formed : (s : HealthState) (xs : List ℕ) → malformed r p s ≡ false → (w : Result) → testFrom r p 0 s xs ≡ w
       → malformed r p (outcomeOf w .next) ≡ false
-  unfolding outcomeOf failedAt
+  unfolding outcomeOf failedAt fresh
   result-formed s xs m (passed t) e = well-formed r p t (walk-formed r p 0 s t xs b (formed r p s m) e)
   result-formed s xs m (failed place x y) e = well-formed r p fresh (fresh-formed r p a b)
 

@@ -127,7 +127,7 @@ passes-both r p s x e =
     (leb-false r (runAfter s x) (q .0), leb-false p (countAfter s x) (q .1))
 
 pub noted-formed : (r p : ℕ) (s : HealthState) (x : ℕ) → outOfRange p ≡ false → Formed r p s → fails r p s x ≡ false → Formed r p (noted s x)
-unfolding noted windowSize
+unfolding noted runAfter windowSize
 noted-formed r p s x range f e =
     let b = passes-both r p s x e in
     split (Formed r p) (eqb (s .seen + 1) 512)

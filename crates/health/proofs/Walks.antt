@@ -22,7 +22,7 @@ use Rattle.health.proofs.States.{formed, well-formed, noted-formed}
 
 pub noted-full : (s : HealthState) (x run : ℕ) → run ≡ runAfter s x → s .seen ≡ 511
     → record { last = x; run = run; first = 0; count = 0; seen = 0 } ≡ noted s x
-unfolding noted windowSize
+unfolding noted runAfter windowSize
 noted-full s x run e h = rw (e, h)
 
 pub noted-more : (s : HealthState) (x run first count : ℕ) → run ≡ runAfter s x → first ≡ firstAfter s x → count ≡ countAfter s x

@@ -1,6 +1,7 @@
 -- `health::sample::noted` meets its contract.
 -- Assumes nothing.
 use Rattle.health.proofs.Walks.{noted-full, noted-more}
+use native.Mathlib.Omega.{arith}
 use borrow.Author.Needs.{needs}
 use Rattle.health.proofs.sample.noted.Statement.{statement}
 use Rattle.health.proofs.sample.noted.Tie as tie
@@ -9,7 +10,7 @@ run-after-requires : tie.Need-run-after-requires
 run-after-requires c κs = search needs
 
 returns : tie.Need-returns
-returns c = noted-full _ _ _ (c .before .before .run-after .ensures) (c .if1 .taken)
+returns c = noted-full _ _ _ (c .before .before .run-after .ensures) (omega (arith, c .if1 .taken))
 
 first-after-requires : tie.Need-first-after-requires
 first-after-requires c κs = search needs
@@ -24,7 +25,7 @@ returns-2 : tie.Need-returns-2
 returns-2 c =
     let test = c .before .before .before in
     noted-more _ _ _ _ _ (test .before .before .run-after .ensures) (c .before .before .first-after .ensures) (c .before .count-after .ensures)
-    (test .if1 .left)
+    (λ q. test .if1 .left (omega (arith, q)))
 
 pub noted-spec : {M : Type 1} → statement M
 noted-spec =
