@@ -192,7 +192,7 @@ def report(program, log, answers):
     path.write_bytes(short)
     path.with_suffix(".answers").write_bytes(answers(short))
     print(f"FAIL  {difference(program, short, answers)}")
-    print(f"the log is {path}, what tests/independent/logbook.py answers is beside it")
+    print(f"the log is {path}, the answers that were worked out are beside it")
 
 
 def fuzz(program, seconds, seed, writer=Writer, answers=answers_to):
