@@ -63,6 +63,11 @@ def test(repetition, proportion, samples):
     return b"test %d %d " % (repetition, proportion) + (b",".join(repeats(samples)) or b"-")
 
 
+def plain_test(repetition, proportion, samples):
+    """The same call with nothing shortened, which is made in less time."""
+    return b"test %d %d " % (repetition, proportion) + (",".join(map(str, samples)).encode() or b"-")
+
+
 # ---- reading and answering them
 
 
