@@ -91,8 +91,8 @@ def ask_rt(name, verbose, verb, crate, at_once=None):
 
 @contextlib.contextmanager
 def alone(name):
-    """One command at a time builds. Of six that asked rt at once, with nothing changed, two were told that all had failed:
-    each rt writes its verdicts to the same files."""
+    """One command at a time builds. Of six that asked rt at once, with nothing changed, two were told that all had
+    failed: each rt writes its verdicts to the same files."""
     TARGET.mkdir(exist_ok=True)
     with open(TARGET / "building.lock", "w") as lock:
         start, told = time.monotonic(), False

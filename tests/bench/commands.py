@@ -1,5 +1,6 @@
 #!/usr/bin/env python3
 """Runs the commands in bin/ as a user does: from another folder, through a link, with wrong words and missing files.
+health_commands.py, beside this, has what needs the static library.
 
     tests/bench/commands.py      a line for each check; exits 1 where one failed"""
 import hashlib
@@ -16,7 +17,7 @@ from frames import event, log_of, request, update, wide_event, write
 from program import Failure
 
 LOGS = ROOT / "tests" / "bench" / "logs"
-COMMANDS = ("bench", "logbook", "checklist")
+COMMANDS = ("bench", "logbook", "checklist", "health")
 ARCHIVE = LOGS / "archive.log"
 KINDS = {"2010": [], "2003": ["--edition", "2003"], "2003, header 1": ["--edition", "2003", "--header", "1"]}  # of logbook
 # What stations of each kind answered to the archive's log. Those from before are kept, by the SHA-256 here: the versions that ran
@@ -110,7 +111,7 @@ def at_once(folder):
     for started in runs:
         output, said = started.communicate(timeout=300)
         # on a busy machine one may have to wait for the others, and says so
-        said = said.decode().replace("bench: another bench is proving; waiting for it\n", "")
+        said = said.decode().replace("bench: another command is proving; waiting for it\n", "")
         expect(["bench", "example.log"], (started.returncode, output, said), 0, None)
 
 
@@ -306,9 +307,10 @@ CHECKS = (
 )
 
 
-def main():
+def check_all(checks):
+    """The exit status. Each check has a folder of its own."""
     failed = False
-    for check in CHECKS:
+    for check in checks:
         with tempfile.TemporaryDirectory() as folder:
             try:
                 check(Path(folder))
@@ -320,4 +322,4 @@ def main():
 
 
 if __name__ == "__main__":
-    sys.exit(main())
+    sys.exit(check_all(CHECKS))

@@ -193,15 +193,18 @@ def files():
 
 def near_clause(r, repetition, proportion):
     """A state at the bound of one clause of 35, a step to either side of it."""
-    beside = r.randrange(-1, 2)
+
+    def near(bound):
+        return min(max(bound + r.randrange(-1, 2), 0), LARGEST)
+
     run, seen = r.randrange(1, max(repetition, 2)), r.randrange(1, FULL)
     good = State(r.choice((0, 1, 9, LARGEST)), run, r.choice((0, 1, 9, LARGEST)), 1, seen)
     return r.choice(
         (
-            good._replace(run=max(repetition + beside, 0)),
-            good._replace(count=max(proportion + beside, 0), seen=511),
-            good._replace(count=min(seen, proportion) + beside, seen=seen),
-            good._replace(seen=511 + r.randrange(3)),
+            good._replace(run=near(repetition)),
+            good._replace(count=near(proportion), seen=511),
+            good._replace(count=near(min(seen, proportion))),
+            good._replace(seen=near(FULL)),
             good._replace(count=r.randrange(2), seen=r.randrange(2)),
             good._replace(run=r.randrange(2), last=r.randrange(2)),
             State(good.last, run, r.randrange(2), 0, r.randrange(2)),
@@ -459,7 +462,7 @@ WRONG_ANSWERS = (
     wrong("keeps the 512 seen of a full window", window_left=kept_at_full("seen")),
     wrong("keeps a full window", window_left=kept_at_full("first", "count", "seen")),
 )
-# Each clause of 35 off by one: the first text takes a state that must not be taken, the second refuses one that must be.
+# Each clause of 35 off by one: the first text takes a state that is malformed, the second refuses one that is not.
 OFF_BY_ONE = {
     "run at its cutoff": (lambda c: c.state.run > c.repetition, lambda c: c.state.run >= c.repetition - 1),
     "count at its cutoff": (lambda c: c.state.count > c.proportion, lambda c: c.state.count >= c.proportion - 1),

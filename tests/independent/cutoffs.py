@@ -1,7 +1,7 @@
 """Cutoffs of the health tests from an entropy estimate and a false-alarm rate (SP 800-90B, 4.4.1 and 4.4.2).
 
-The entropy H is the min-entropy of a sample in bits: no value comes with a chance above 2^-H. The rate is 2^-alarm. H is
-a Fraction or whole, so that nothing is rounded where a cutoff goes up by one."""
+The entropy H is the min-entropy of a sample in bits: no value comes with a chance above 2^-H. The rate is 2^-alarm. H
+is a Fraction or whole, so that nothing is rounded where a cutoff goes up by one."""
 from decimal import Decimal, localcontext
 from fractions import Fraction
 from math import ceil, comb
@@ -22,8 +22,8 @@ def repetition(entropy, alarm):
 
 
 def tails(size, entropy):
-    """For k = size, size - 1, .. 1: k, and the chance that a value of chance 2^-H comes k times or more in size samples.
-    The terms have one sign, so that adding them loses no digits."""
+    """For k = size, size - 1, .. 1: k, and the chance that a value of chance 2^-H comes k times or more in size
+    samples. The terms have one sign, so that adding them loses no digits."""
     entropy = Fraction(entropy)
     chance = Decimal(2) ** -(Decimal(entropy.numerator) / entropy.denominator)
     total = Decimal(0)
@@ -50,18 +50,17 @@ def proportion(entropy, alarm):
 
 
 def usable(entropy, alarm):
-    """Both cutoffs, as the library takes them. Where the second formula gives 1, at which each window's first sample fails,
-    2 holds the rate too: one more than the first among 511 is no likelier than one among 512."""
+    """Both cutoffs, as the library takes them. Where the second formula gives 1, at which each window's first sample
+    fails, 2 holds the rate too: one more than the first among 511 is no likelier than one among 512."""
     first, second = repetition(entropy, alarm), max(proportion(entropy, alarm), LEAST)
     if max(first, second) > MOST:
-        raise NoCutoffs(f"the formulas give {first} and {second}, and the library refuses a cutoff above {MOST} with 34")
+        raise NoCutoffs(f"the formulas give {first} and {second}; the library refuses a cutoff above {MOST} with 34")
     return first, second
 
 
 def window_rate(entropy, cutoff):
-    """The exponent of 2 in the chance that a window of such a source fails the proportion test, at most: its samples are
-    independent, and each value has a chance of 2^-H. The window's first sample is sure to count, and 511 are left to
-    chance."""
+    """The exponent of 2 in the chance, at most, that a window of such a source fails the proportion test, if samples are
+    independent. The window's first sample is sure to count, and 511 are left to chance."""
     with localcontext() as context:
         context.prec = DIGITS
         chance = next(tail for k, tail in tails(WINDOW - 1, entropy) if k == cutoff - 1)
