@@ -3,7 +3,7 @@
 
 The year's checks of docs/CHECKLIST.md. CHECK is one of
 
-  april      junk in place of a noise source
+  april      junk in place of a noise source; health tests tell the one that is stuck
   may        cold start from a stored seed
   july       clock set back, then a draw every 50 ms
   october    keys worked out again from the logged calls
@@ -17,11 +17,12 @@ is named at the end. stale needs no bench and leaves no files: it prints what it
                       input. October goes by the 2010 edition: logbook --compare tells whether the station did
   --header BYTES      stale: the bytes of the source in an event's header, 2, or 1 for a station from before frame 05
   --out DIRECTORY     where logs and answers stay; without it a new temporary directory
-  --bench PROGRAM     checks this program; without it the bench of this repository, which is proved and built first
+  --bench PROGRAM     checks this program; without it the bench of this repository, which is proved and built first.
+                      April also takes the static library of this repository, and builds it as bin/health does
   --help              prints this
 
-Exit status: 0 all checks passed, or stale found the number; 1 a check failed, the bench could not be built, or stale
-was given no log of calls; 2 bad arguments, or FILE can't be read.
+Exit status: 0 all checks passed, or stale found the number; 1 a check failed, the bench or the library could not be
+built, or stale was given no log of calls; 2 bad arguments, or FILE can't be read.
 """
 import io
 import re
@@ -32,9 +33,12 @@ from collections import Counter
 from pathlib import Path
 
 ROOT = Path(__file__).resolve().parents[2]
-sys.path.append(str(ROOT / "tests" / "independent"))
+sys.path += [str(ROOT / "tests" / folder) for folder in ("independent", "c_interface")]
 
+import health_script
 from arguments import Parser
+from building import NotBuilt, health_program
+from cutoffs import usable
 from editions import OneByteLogbook
 from frames import HEADER, Noise, event, log_of, request, update, wide_event, write
 from logbook import MOST_TOLD, Event, Logbook, answer, booked, call_of, lines as lines_of
@@ -50,16 +54,20 @@ def require(holds, why):
 
 
 class Bench:
-    """A program, the directory where the logs of its runs stay, and the name and bytes of a log that a station wrote, if
-    there is one."""
+    """A program, the directory where the logs of its runs stay, the name and bytes of a log that a station wrote, if
+    there is one, and the health tests' program, which April needs."""
 
-    def __init__(self, program, directory, station_log=None):
+    def __init__(self, program, directory, station_log=None, health=None):
         self.program = program
         self.directory = directory
         self.station_log = station_log
+        self.health = health
 
     def answers(self, log):
         return run(self.program, log)
+
+    def health_answers(self, script):
+        return run(self.health, script)
 
     def run(self, name, log):
         """The program's answers, a list with one for each line."""
@@ -113,10 +121,20 @@ def draws(answers):
 
 # ---- April: junk in place of a noise source
 
-SOURCES = (1, 2, 900)  # the last one needs frame 05
-JUNK_SOURCE = 2
-JUNK = b"\xaa" * 32
+SOURCES = (1, 2, 3, 900)  # the last one needs frame 05
+STUCK, CHOSEN = 2, 3  # the sources of junk
+STUCK_BYTE = 0xAA
 TURNS = 40
+HEALTH = {"entropy": 1, "alarm": 30}  # what the cutoffs are for: bits a byte, and false alarms of 2^-30
+
+
+def sent(source, noise, turn, pool):
+    """The data of an event: the same byte for ever, bytes that count up for ever, or noise."""
+    data = noise.take(13 + noise.below(20))
+    if source == STUCK:
+        return bytes([STUCK_BYTE]) * 32
+    start = 32 * (32 * turn + pool)
+    return bytes(byte % 256 for byte in range(start, start + 32)) if source == CHOSEN else data
 
 
 def april_lines(sources):
@@ -125,9 +143,9 @@ def april_lines(sources):
     for turn in range(TURNS):
         for pool in range(32):
             for source in SOURCES:
-                data = noise.take(13 + noise.below(20))
+                data = sent(source, noise, turn, pool)
                 if source in sources:
-                    yield event(source, pool, JUNK if source == JUNK_SOURCE else data)
+                    yield event(source, pool, data)
         yield request(1000 + 101 * turn, KEY)
 
 
@@ -142,7 +160,7 @@ def april_sample():
 def with_one_changed(lines, place):
     """The log with other junk in one event, or with the last bit of another source's event the other way."""
     _, source, pool, data = call_of(lines[place])
-    other = bytes(32) if source == JUNK_SOURCE else data[:-1] + bytes([data[-1] ^ 1])
+    other = bytes(32) if source == STUCK else data[:-1] + bytes([data[-1] ^ 1])
     return log_of([*lines[:place], event(source, pool, other), *lines[place + 1 :]])
 
 
@@ -161,11 +179,37 @@ def enters(bench, lines, answers, place):
     return number <= reseeds
 
 
-def april(bench):
-    junk = f"source {JUNK_SOURCE} sends only bytes {JUNK[:1].hex().upper()}"
-    print(f"Sources {', '.join(map(str, SOURCES))}; {junk}; {TURNS} keys are drawn.")
-    lines = list(april_lines(SOURCES))
-    answers = bench.run("april", log_of(lines))
+def april_samples(lines, source):
+    """The bytes of a source's events, each a sample."""
+    calls = (call_of(line) for line in lines)
+    return [byte for name, *rest in calls if name == "event" and rest[0] == source for byte in rest[2]]
+
+
+def april_health(bench, lines):
+    """The stuck source fails, at the first sample that makes its run as long as the cutoff; no other source does."""
+    cutoffs = usable(**HEALTH)
+    tests = (health_script.test(*cutoffs, april_samples(lines, source)) for source in SOURCES)
+    script = log_of(line for test in tests for line in (health_script.fresh(), test))
+    (bench.directory / "april-health.script").write_bytes(script)
+    output = bench.health_answers(script)
+    (bench.directory / "april-health.answers").write_bytes(output)
+    answers = output.split(b"\n")[1:-1:2]
+    count = len(SOURCES)
+    require(len(answers) == count, f"april-health.script has {count} tests, and {len(answers)} answers came")
+    for source, reply in zip(SOURCES, answers):
+        expected = b"0 %d repetition" % (cutoffs[0] - 1) if source == STUCK else b"0 0 none"
+        found = f"april-health.answers, source {source}: expected '{expected.decode()} ..', found {shortened(reply)}"
+        require(reply.startswith(expected + b" "), found)
+    try:
+        compare(script, b"".join(health_script.answers(script)), output)
+    except Failure as why:
+        raise Failure(f"april-health.script, {why}") from None
+    print(f"Health tests with cutoffs {cutoffs[0]} and {cutoffs[1]}: source {STUCK} fails the repetition count test at")
+    print(f"sample {cutoffs[0] - 1}, counted from 0. The others pass, source {CHOSEN} too: it is junk, but not stuck.")
+
+
+def april_keys(lines, answers):
+    """Every event is accepted, and a pool reseed comes before each key."""
     events = 0
     for n, (line, reply) in enumerate(zip(lines, answers), 1):
         if call_of(line)[0] == "event":
@@ -176,7 +220,17 @@ def april(bench):
     for n, (reseeds, _) in enumerate(keys, 1):
         require(reseeds == n, f"april.log, key {n}: expected {n} pool reseeds up to it, found {reseeds}")
     print(f"{events} events, all accepted; a pool reseed before each key; {came_due(answers)} came due.")
-    known = {key for _, key in draws(bench.run("april-junk-only", log_of(april_lines({JUNK_SOURCE}))))}
+    return keys
+
+
+def april(bench):
+    junk = f"{STUCK} sends only bytes {STUCK_BYTE:02X}, {CHOSEN} counts from 00 to FF for ever"
+    print(f"Sources {', '.join(map(str, SOURCES))}, of which {junk}; {TURNS} keys are drawn.")
+    lines = list(april_lines(SOURCES))
+    april_health(bench, lines)
+    answers = bench.run("april", log_of(lines))
+    keys = april_keys(lines, answers)
+    known = {key for _, key in draws(bench.run("april-junk-only", log_of(april_lines({STUCK, CHOSEN}))))}
     for n, (_, key) in enumerate(keys, 1):
         require(key not in known, f"april.log: key {n} is one that the junk alone gives (april-junk-only.answers)")
     print("No key is one that the junk alone gives.")
@@ -438,6 +492,14 @@ def own_bench():
     return ROOT / "target" / "bin" / "bench_main"
 
 
+def own_health(names):
+    """The health tests' program over the static library of this repository, where a check needs it."""
+    try:
+        return health_program("checklist") if "april" in names else None
+    except NotBuilt as why:
+        raise Failure(str(why)) from None
+
+
 def answer_stale(parser, chosen):
     """The exit status."""
     for name in ("out", "bench"):
@@ -469,16 +531,16 @@ def main():
     if chosen.log is not None:
         with parser.opened(chosen.log) as log:
             station_log = chosen.log, log.read()
+    names = [*CHECKS] if chosen.check == "year" else [chosen.check]
     try:
-        program = chosen.bench or own_bench()
+        program, health = chosen.bench or own_bench(), own_health(names)
         directory = chosen.out or Path(tempfile.mkdtemp(prefix="checklist-"))
         directory.mkdir(parents=True, exist_ok=True)
     except Failure as why:
         parser.exit(1, f"checklist: {why}\n")
     except OSError as why:
         parser.exit(2, f"checklist: {why.filename}: {why.strerror}\n")
-    bench = Bench(program, directory, station_log)
-    names = CHECKS if chosen.check == "year" else [chosen.check]
+    bench = Bench(program, directory, station_log, health)
     results = [passes(name, bench) for name in names]
     print(f"logs and answers: {directory}")
     return 0 if all(results) else 1

@@ -1,6 +1,7 @@
 #!/usr/bin/env python3
 """Shows that October's made log (tests/bench/checklist.py) tells wrong benches from the right one; those with a wrong
-block of zeros (02, v) are told by a stored log too. What no bench can show, the readings tell.
+block of zeros (02, v) are told by a stored log too. What no bench can show, the readings tell. April tells wrong health
+tests (02, vi) from the right ones.
 
     tests/bench/wrong_benches.py      a line for each wrong one; exits 1 where one gives the right answers
 
@@ -14,16 +15,18 @@ from functools import partial
 from pathlib import Path
 from unittest import mock
 
-sys.path.append(str(Path(__file__).resolve().parents[1] / "independent"))
+sys.path += [str(Path(__file__).resolve().parents[1] / folder) for folder in ("independent", "c_interface")]
 
 import generator
+import health_script
 import logbook
 import readings
 import station
 from bench_runs import stored
-from checklist import Bench, october, october_lines
+from checklist import SOURCES, Bench, april, april_health, april_lines, october, october_lines
 from frames import log_of
 from generator import State, sha_d256
+from health import Health
 from logbook import Logbook
 from logs import LOGS
 from program import Failure
@@ -196,14 +199,81 @@ def failing_reading(patch):
     return None
 
 
+# ---- health tests
+
+
+class NeverFails(Health):
+    """never fail"""
+
+    def failure(self):
+        return None
+
+
+class FailsLate(Health):
+    """fail a sample late"""
+
+    def answer(self):
+        found = super().answer()
+        return found._replace(place=found.place + 1) if found.repetition or found.proportion else found
+
+
+class NeedsOneMore(Health):
+    """need one equal sample more than the cutoff"""
+
+    def fails_repetition(self, k):
+        return k > 0 and super().fails_repetition(k - 1) and self.samples[k] == self.samples[k - 1]
+
+
+class NoRepetition(Health):
+    """have no repetition count test"""
+
+    def fails_repetition(self, k):
+        return False
+
+
+class TellsOther(Health):
+    """tell the one test for the other"""
+
+    def answer(self):
+        found = super().answer()
+        return found._replace(repetition=found.proportion, proportion=found.repetition)
+
+
+class KeepsState(Health):
+    """keep the state after a failure"""
+
+    def after_failure(self, k):
+        return Health(self.state, self.samples[: k + 1], *self.cutoffs()).left()
+
+
+class TakesChosen(Health):
+    """fail a source whose bytes count up"""
+
+    def fails_repetition(self, k):
+        return super().fails_repetition(k) or self.samples[k : k + 3] == [0, 1, 2]
+
+
+class AlwaysFails(Health):
+    """fail every source"""
+
+    def fails_proportion(self, k):
+        return True
+
+
+WRONG_HEALTH = (NeverFails, FailsLate, NeedsOneMore, NoRepetition, TellsOther, KeepsState, TakesChosen, AlwaysFails)
+
+
 # ---- what tells them apart
 
 
 class PlayedBench(Bench):
-    """A bench whose part a logbook plays; program is its class."""
+    """A bench whose part a logbook plays, and health tests that are played too; program and health are the classes."""
 
     def answers(self, log):
         return b"".join(logbook.answers(io.BytesIO(log), self.program()))
+
+    def health_answers(self, script):
+        return b"".join(health_script.answers(script, self.health))
 
 
 def first_difference(log, right, wrong):
@@ -214,11 +284,11 @@ def first_difference(log, right, wrong):
     return None
 
 
-def verdict(bench):
-    """Why October fails a bench; None where it passes."""
+def verdict(check, *arguments):
+    """Why a check fails; None where it passes."""
     with contextlib.redirect_stdout(io.StringIO()):
         try:
-            october(bench)
+            check(*arguments)
         except Failure as why:
             return str(why)
     return None
@@ -252,17 +322,32 @@ def places():
         yield f"a station that {text}", [reading and f"reading '{reading}'"]
 
 
+def health_places(directory):
+    """What is wrong with health tests, and what April says of them. It looks at them before it runs the bench."""
+    for wrong in WRONG_HEALTH:
+        why = verdict(april, PlayedBench(Logbook, directory, health=wrong))
+        yield f"health tests that {wrong.__doc__}", [why and f"April: {why}"]
+
+
+def right_ones(directory):
+    """What the checks say of right benches and of right health tests, where they fail one."""
+    for book in (Logbook, partial(WrongD, sha_d256, sha_d256)):
+        yield verdict(october, PlayedBench(book, directory))
+    yield verdict(april_health, PlayedBench(Logbook, directory, health=Health), list(april_lines(SOURCES)))
+
+
 def main():
     failed = False
-    for text, found in places():
-        failed |= None in found
-        print(f"{'FAIL' if None in found else 'pass'}  {text}: {'; '.join(place or 'not told' for place in found)}")
-    books = (Logbook, partial(WrongD, sha_d256, sha_d256), SkipsKeyBlocks)  # the last alone is wrong
-    with tempfile.TemporaryDirectory() as directory:
-        *good, bad = (verdict(PlayedBench(book, Path(directory))) for book in books)
-    if any(good) or not bad:
+    with tempfile.TemporaryDirectory() as folder:
+        directory = Path(folder)
+        for text, found in (*places(), *health_places(directory)):
+            failed |= None in found
+            print(f"{'FAIL' if None in found else 'pass'}  {text}: {'; '.join(place or 'not told' for place in found)}")
+        good = [why for why in right_ones(directory) if why]
+        bad = verdict(october, PlayedBench(SkipsKeyBlocks, directory))
+    if good or not bad:
         failed = True
-        print(f"FAIL  October says of the right benches: {good}; of one that {SkipsKeyBlocks.__doc__}: {bad}")
+        print(f"FAIL  said of what is right: {good}; of a bench that {SkipsKeyBlocks.__doc__}: {bad}")
     return 1 if failed else 0
 
 
