@@ -44,13 +44,14 @@ ClausesRow =
     ∷ state 7 1 7 0 9 ∷ state 0 0 7 1 9 ∷ state 7 1 7 1 9 ∷ state 7 1 7 0 0 ∷ state 7 1 0 0 0 ∷ state 7 0 0 0 0 ∷ state 0 0 0 0 0 ∷ [])
     ≡ 35 ∷ 0 ∷ 35 ∷ 0 ∷ 35 ∷ 0 ∷ 35 ∷ 0 ∷ 35 ∷ 35 ∷ 0 ∷ 35 ∷ 0 ∷ 35 ∷ 0 ∷ []
 
--- the third equal sample in a row at cutoff 3, the third in the window at cutoff 3, both at one sample; the samples behind it are not read, and the
--- state is fresh again
+-- the third equal sample in a row at cutoff 3, the third in the window at cutoff 3, both at one sample; the samples behind it are not read, the
+-- state is fresh again, and it is no refusal
 abbrev pub FailingRow : Type 0
 FailingRow =
     (tested 3 512 fresh (5 ∷ 4 ∷ 4 ∷ 4 ∷ 4 ∷ []) ≡ record { answer = Failed 3 true false; next = fresh })
     × (tested 512 3 fresh (7 ∷ 1 ∷ 7 ∷ 2 ∷ 7 ∷ 7 ∷ []) ≡ record { answer = Failed 4 false true; next = fresh })
     × (tested 2 2 fresh (7 ∷ 7 ∷ []) ≡ record { answer = Failed 1 true true; next = fresh })
+    × (number (tested 2 2 fresh (7 ∷ 7 ∷ []) .answer) ≡ 0)
 
 -- one sample less passes, and the state carries over: the call on what is left fails at its first sample
 abbrev pub CarriedRow : Type 0
@@ -68,7 +69,8 @@ ZerosRow =
     × (tested 3 512 fresh (0 ∷ 0 ∷ 0 ∷ []) ≡ record { answer = Failed 2 true false; next = fresh })
     × (tested 3 3 (state 4 1 0 0 0) (0 ∷ 4 ∷ 0 ∷ []) ≡ record { answer = Passed; next = state 0 1 0 2 3 })
 
--- the 512th sample closes the window, whose fields are 0 again, and the run goes on across it; where that sample fails, it fails before
+-- the 512th sample closes the window, whose fields are 0 again, and the run goes on across it, so that it may be longer than the next window; where
+-- that sample fails, it fails before
 abbrev pub WindowRow : Type 0
 WindowRow =
     (tested 9 9 (state 4 1 7 3 510) (4 ∷ []) ≡ record { answer = Passed; next = state 4 2 7 3 511 })
@@ -76,6 +78,8 @@ WindowRow =
     × (tested 3 9 (state 4 1 7 3 511) (4 ∷ 4 ∷ []) ≡ record { answer = Failed 1 true false; next = fresh })
     × (tested 9 4 (state 4 1 7 3 511) (7 ∷ []) ≡ record { answer = Failed 0 false true; next = fresh })
     × (tested 9 4 (state 4 1 7 3 511) (4 ∷ 7 ∷ 7 ∷ []) ≡ record { answer = Passed; next = state 7 2 7 2 2 })
+    × (tested 9 9 (state 4 1 7 3 511) (4 ∷ 4 ∷ []) ≡ record { answer = Passed; next = state 4 3 4 1 1 })
+    × (tested 9 9 (state 4 3 4 1 1) (4 ∷ []) ≡ record { answer = Passed; next = state 4 4 4 2 2 })
 
 -- the highest cutoffs: 511 equal samples pass, and the 512th fails both tests, in a call with them and in one of its own
 abbrev pub HighestRow : Type 0
