@@ -1,11 +1,11 @@
 #!/usr/bin/env python3
 """Scripts of health tests (health_script.py, beside this) and their answers by tests/independent/health.py.
 
-    health.py --write DIRECTORY            writes the stored scripts and their answers
-    health.py --check DIRECTORY            makes them again and exits 1 where a stored file differs
-    health.py --against PROGRAM [--seconds S] [--seed N]
+    health_runs.py --write DIRECTORY       writes the stored scripts and their answers
+    health_runs.py --check DIRECTORY       makes them again and exits 1 where a stored file differs
+    health_runs.py --against PROGRAM [--seconds S] [--seed N]
                                            random scripts to health.c, beside this
-    health.py --self-test                  wrong versions of tests/independent/health.py, each of which a stored script
+    health_runs.py --self-test             wrong versions of tests/independent/health.py, each of which a stored script
                                            must tell from the right one
 
 Nothing in the stored scripts comes from chance. A random script tests the same samples cut and uncut: nothing is read
@@ -16,9 +16,7 @@ import sys
 from collections import Counter
 from pathlib import Path
 
-# This file has the name of the one that it takes the answers from, so that folder comes first.
-sys.path[:0] = [str(Path(__file__).resolve().parents[1] / folder) for folder in ("independent", "bench")]
-sys.path.append(str(Path(__file__).resolve().parent))
+sys.path += [str(Path(__file__).resolve().parents[1] / folder) for folder in ("independent", "bench")]
 
 import fuzz
 import health_script as script
@@ -529,7 +527,7 @@ def main():
     if chosen.self_test:
         return self_test()
     if chosen.check:
-        return check_files(chosen.check, files(), "tests/c_interface/health.py")
+        return check_files(chosen.check, files(), "tests/c_interface/health_runs.py")
     write_files(chosen.write, files())
     return 0
 
