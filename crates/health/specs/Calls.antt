@@ -45,6 +45,7 @@ fresh = record { last = 0; run = 0; first = 0; count = 0; seen = 0 }
 unfoldable pub failedAt : ℕ → Bool → Bool → Outcome
 failedAt place byRepetition byProportion = record { answer = Failed place byRepetition byProportion; next = fresh }
 
+-- where every sample passes, the state carries over
 unfoldable pub outcomeOf : Result → Outcome
 outcomeOf (passed next) = record { answer = Passed; next = next }
 outcomeOf (failed place byRepetition byProportion) = failedAt place byRepetition byProportion

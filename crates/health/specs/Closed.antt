@@ -22,11 +22,12 @@ use Rattle.health.specs.declared.Answer.the-variants.{Passed, Failed}
 abbrev pub LastEqual : ℕ → List ℕ → ℕ → Type 0
 LastEqual n samples k = (n ≤ k + 1) × ((j : ℕ) → j ≤ k → k < j + n → sampleAt samples j ≡ sampleAt samples k)
 
--- how many equal samples, at most, end at a place: `RunLaw` says that these and no more are equal
+-- how many equal samples, at most, end at a place
 unfoldable pub runEndingAt : List ℕ → ℕ → ℕ
 runEndingAt samples zero = 1
 runEndingAt samples (suc k) = cond (eqb (sampleAt samples (suc k)) (sampleAt samples k)) (runEndingAt samples k + 1) 1
 
+-- the last n samples are equal exactly if that many end there
 abbrev pub RunLaw : Type 0
 RunLaw = (samples : List ℕ) (k n : ℕ) → LastEqual n samples k ↔ (n ≤ runEndingAt samples k)
 
@@ -75,6 +76,7 @@ stateAfter samples (suc k) = record {
   seen = length (openWindow samples (suc k));
 }
 
+-- it is the state that these samples leave, one noted after the other
 abbrev pub StateLaw : Type 0
 StateLaw = (samples : List ℕ) (n : ℕ) → n ≤ length samples → notedAll fresh (take n samples) ≡ stateAfter samples n
 

@@ -23,12 +23,15 @@ repetitionFails cutoff s x = leb cutoff (runAfter s x)
 
 -- ---- 4.4.2: A is the window's first sample, B how often it has come there
 
+-- A after a sample: the sample itself where the window has none yet
 unfoldable pub firstAfter : HealthState → ℕ → ℕ
 firstAfter s x = cond (eqb (s .seen) 0) x (s .first)
 
+-- B after a sample: 1 for the window's first, else one more where it is A
 unfoldable pub countAfter : HealthState → ℕ → ℕ
 countAfter s x = cond (eqb (s .seen) 0) 1 (cond (eqb x (s .first)) (s .count + 1) (s .count))
 
+-- it fails where B comes to the cutoff
 unfoldable pub proportionFails : ℕ → HealthState → ℕ → Bool
 proportionFails cutoff s x = leb cutoff (countAfter s x)
 
