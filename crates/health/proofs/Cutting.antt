@@ -89,7 +89,7 @@ walk-formed r p k s t (x ∷ xs) range f e = go (walk-formed r p (suc k) (noted 
 later-outcome : (n : ℕ) (w : Result) → outcomeOf (shift n w) ≡ record { answer = later n (outcomeOf w .answer); next = outcomeOf w .next }
 unfolding outcomeOf shift later failedAt
 later-outcome n (passed t) = refl
-later-outcome n (failed place a b) = refl
+later-outcome n (failed place a b) = let q : n + place ≡ place + n = omega arith in cc
 
 pub passed-outcome : (t : HealthState) → outcomeOf (passed t) ≡ record { answer = Passed; next = t }
 unfolding outcomeOf

@@ -41,8 +41,8 @@ windowStart k = windowSize * (k / windowSize)
 abbrev pub countAt : List ℕ → ℕ → ℕ
 countAt samples k = countOf (sampleAt samples (windowStart k)) (slice (windowStart k) (k + 1) samples)
 
--- some sample of window n comes to the cutoff exactly if the window's first comes so often in the whole window: looked at with each sample or only
--- where a window is full, the test fails in the same windows
+-- of a window n that is full, some sample comes to the cutoff exactly if the window's first comes so often in all of it: looked at with each sample
+-- or only where a window is full, the test first fails in the same window
 abbrev pub WindowLaw : Type 0
 WindowLaw =
     (cutoff : ℕ) (samples : List ℕ) (n : ℕ) → windowSize * (n + 1) ≤ length samples →

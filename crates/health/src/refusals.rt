@@ -38,7 +38,7 @@ fn is_stray(number: u32, sample: u32) -> bool
     false
 }
 
-// 35: a state that no run with these cutoffs leaves.
+// 35: each clause of 02 names a kind of state that no run with these cutoffs leaves.
 pub(crate) fn is_malformed(state: HealthState, repetition: u32, proportion: u32) -> bool
     ensures { λ r. ⌜ r ≡ malformed repetition proportion state ⌝ }
 {
