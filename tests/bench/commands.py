@@ -294,11 +294,13 @@ def tells_editions(folder):
 
 
 def says_where_it_was_cut_off(folder):
-    """A full disk is no verdict."""
+    """A full disk is no verdict, and no standard output is none."""
     logbook = str(ROOT / "bin" / "logbook")
     for words in ([], ["--compare", str(ANSWERED["2003"])]):
         with open("/dev/full", "wb") as full:
             tell([logbook, *words, str(ARCHIVE)], folder, 2, "logbook: reading or writing failed: No space left", stdout=full)
+        closed = ["sh", "-c", '"$@" >&-', "sh", logbook, *words, str(ARCHIVE)]
+        tell(closed, folder, 2, "logbook: there is no standard output")
 
 
 CHECKS = (

@@ -17,6 +17,7 @@ from program import Failure
 
 HEALTH = str(ROOT / "bin" / "health")
 PAGE = ROOT / "docs" / "HEALTH.md"
+ARCHIVE = ROOT / "target" / "staticlib" / "libfortuna_c.a"
 TAKEN = {**os.environ, "LIBRARY_BUILT": "1"}
 FRESH_AGAIN = "The test state is fresh again. Nothing after this reading was looked at.\n"
 PLAYED_RT = """#!/bin/sh
@@ -161,27 +162,58 @@ def tests(folder):
     same(words, tell([HEALTH, *words], folder, 1, None, env=TAKEN), told([170] * 100, 31, 325)[1])
 
 
-def says_where_it_was_cut_off(folder):
-    with open("/dev/full", "wb") as full:
-        tell([HEALTH, "table"], folder, 2, "health: reading or writing failed: No space left", stdout=full)
-
-
-def builds(folder):
-    """The library is built once, and again where a file under crates/ or the library itself has changed."""
-    copy, played = folder / "copy", folder / "played"
+def copied(folder):
+    """A copy of what the commands need, with one crate that has nothing in it."""
+    copy = folder / "copy"
     for name in ("bin", "include", "tests/independent", "tests/bench", "tests/c_interface"):
         shutil.copytree(ROOT / name, copy / name, ignore=shutil.ignore_patterns("__pycache__"))
     (copy / "crates" / "fortuna_c").mkdir(parents=True)
     (copy / "crates.txt").write_text("fortuna_c:\n")
+    return copy
+
+
+def with_rt(folder, text):
+    """The folder of an rt that is played, and an environment in which it is found."""
+    played = folder / "played"
     played.mkdir()
-    archive = copy / "target" / "staticlib" / "libfortuna_c.a"
-    text = PLAYED_RT.replace("{0}", str(played)).replace("{1}", str(ROOT / "target" / "staticlib" / archive.name))
-    (played / "rt").write_text(text)
+    (played / "rt").write_text(text.replace("{0}", str(played)).replace("{1}", str(ARCHIVE)))
     (played / "rt").chmod(0o755)
     given = {name: value for name, value in os.environ.items() if name != "LIBRARY_BUILT"}
-    given["PATH"] = f"{played}:{given['PATH']}"
-    words = [str(copy / "bin" / "health"), "test", "--repetition", "2", "--proportion", "2", "one.txt"]
+    return played, {**given, "PATH": f"{played}:{given['PATH']}"}
+
+
+def one_reading(copy, folder):
+    """The words that test one reading, which passes, with the copy's command."""
     (folder / "one.txt").write_text("1")
+    return [str(copy / "bin" / "health"), "test", "--repetition", "2", "--proportion", "2", "one.txt"]
+
+
+def says_where_it_was_cut_off(folder):
+    with open("/dev/full", "wb") as full:
+        tell([HEALTH, "table"], folder, 2, "health: reading or writing failed: No space left", stdout=full)
+    words = one_reading(copied(folder), folder)
+    (folder / "copy" / "target").write_text("no folder")
+    tell(words, folder, 2, "/copy/target: File exists", env=TAKEN)
+
+
+def gives_no_verdict(folder):
+    """Where standard output or standard error is closed, and where a thing goes wrong that nobody has thought of."""
+    words = one_reading(ROOT, folder)
+    tell(["sh", "-c", '"$@" >&-', "sh", *words], folder, 2, "health: there is no standard output", env=TAKEN)
+    tell(["sh", "-c", '"$@" >/dev/full 2>&-', "sh", *words], folder, 2, None, env=TAKEN)
+    copy = copied(folder)
+    (copy / "crates.txt").write_bytes(b"\xff")
+    status, printed, said = run(one_reading(copy, folder), folder, env=with_rt(folder, PLAYED_RT)[1])
+    if status != 2 or printed or "UnicodeDecodeError" not in said:
+        raise Failure(f"an exception: expected status 2, found {status}; it printed '{printed}' and said: {said}")
+
+
+def builds(folder):
+    """The library is built once, and again where a file under crates/ or the library itself has changed."""
+    copy = copied(folder)
+    played, given = with_rt(folder, PLAYED_RT)
+    archive = copy / "target" / "staticlib" / ARCHIVE.name
+    words = one_reading(copy, folder)
 
     def asked(times, env=given):
         tell(words, folder, 0, None, env=env)
@@ -210,7 +242,7 @@ def fails_to_build(folder, words, archive, given, played):
         tell(words, folder, 2, "the Rattle toolchain (rt) is not on the path", env={**given, "PATH": "/usr/bin:/bin"})
 
 
-CHECKS = (cutoffs, table, refuses, readings, tests, says_where_it_was_cut_off, builds)
+CHECKS = (cutoffs, table, refuses, readings, tests, says_where_it_was_cut_off, gives_no_verdict, builds)
 
 if __name__ == "__main__":
     sys.exit(check_all(CHECKS))

@@ -2,7 +2,9 @@
 status 2."""
 import argparse
 import os
+import signal
 import sys
+import traceback
 
 
 class Parser(argparse.ArgumentParser):
@@ -26,8 +28,26 @@ class Parser(argparse.ArgumentParser):
 
     def cut_off(self, why):
         """A read or a write has failed. What is still to be written has nowhere to go, so nothing tries it at the end."""
-        sys.stderr.write(f"{self.prog}: reading or writing failed: {why.strerror}\n")
+        where = "" if why.filename is None else f"{why.filename}: "
+        self._print_message(f"{self.prog}: reading or writing failed: {where}{why.strerror}\n", sys.stderr)
         os._exit(2)
+
+    def status_of(self, work):
+        """The exit status that work() gives. Where it comes to no end of its own the status is 2, or a signal's, so
+        that what went wrong is not taken for a verdict."""
+        if sys.stdout is None:
+            self.exit(2, f"{self.prog}: there is no standard output\n")
+        try:
+            status = work()
+            sys.stdout.flush()
+            return status
+        except OSError as why:
+            self.cut_off(why)
+        except KeyboardInterrupt:
+            return 128 + signal.SIGINT
+        except Exception:
+            traceback.print_exc()
+            return 2
 
     def opened_or_standard_input(self, name):
         if name is not None:

@@ -121,13 +121,7 @@ def work(parser, chosen):
 def main():
     signal.signal(signal.SIGPIPE, signal.SIG_DFL)  # ends without a word where nobody reads on, as in logbook LOG | head
     parser = Parser("logbook", __doc__)
-    chosen = parsed(parser)
-    try:
-        status = work(parser, chosen)
-        sys.stdout.flush()
-    except OSError as why:
-        parser.cut_off(why)
-    return status
+    return parser.status_of(lambda: work(parser, parsed(parser)))
 
 
 if __name__ == "__main__":
