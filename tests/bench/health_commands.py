@@ -100,6 +100,10 @@ def readings(folder):
         ("٣".encode(), "reading 0, counted from 0, is "),
         (b"\0" * 200000, "reading 0, counted from 0, is "),
         (b"7 " * 5 + b"9" * 200000, "reading 5, counted from 0, is '99999999999999999999'.."),
+        (b"7 00x", "reading 1, counted from 0, is '00x'"),
+        (b"004294967296", "reading 0, counted from 0, is '004294967296'"),
+        (b"0" * 200000 + b"4294967296", "reading 0, counted from 0, is '00000000000000000000'.."),
+        (b"0" * 200000 + b"x", "reading 0, counted from 0, is '00000000000000000000'.."),
     ):
         (folder / "some.txt").write_bytes(text)
         tell([HEALTH, "test", *both, "some.txt"], folder, 2, said, env=TAKEN)
@@ -157,6 +161,12 @@ def tests(folder):
             (folder / "some.bin").write_bytes(bytes(samples))
             words = ["test", "--bytes", *options, "some.bin"]
             same(words, tell([HEALTH, *words], folder, status, None, env=TAKEN), expected)
+    (folder / "zeros.txt").write_bytes(b"00000000001 0 000 " + b"0" * 200000 + b"4294967295 " + b"0" * 200000)
+    words = ["test", "--repetition", "0000000000002", "--proportion", "000000000000512", "zeros.txt"]
+    same("zeros in front", tell([HEALTH, *words], folder, 1, None, env=TAKEN), told([1, 0, 0], 2, 512)[1])
+    words[2] = "00000000000031"
+    expected = told([1, 0, 0, 4294967295, 0], 31, 512)[1]
+    same("zeros in front", tell([HEALTH, *words], folder, 0, None, env=TAKEN), expected)
     (folder / "stuck.bin").write_bytes(b"\xaa" * 100)
     words = ["test", "--entropy", "1", "--alarm", "30", "--bytes", "stuck.bin"]
     same(words, tell([HEALTH, *words], folder, 1, None, env=TAKEN), told([170] * 100, 31, 325)[1])
