@@ -26,7 +26,7 @@ built, or stale was given no log of calls; 2 bad arguments, or FILE can't be rea
 """
 import io
 import re
-import subprocess
+import signal
 import sys
 import tempfile
 from collections import Counter
@@ -37,7 +37,7 @@ sys.path += [str(ROOT / "tests" / folder) for folder in ("independent", "c_inter
 
 import health_script
 from arguments import Parser
-from building import NotBuilt, health_program
+from building import NotBuilt, bench_program, end_on_signals, health_program
 from cutoffs import usable
 from editions import OneByteLogbook
 from frames import HEADER, Noise, event, log_of, request, update, wide_event, write
@@ -485,17 +485,12 @@ def passes(name, bench):
     return True
 
 
-def own_bench():
-    """The bench of this repository, proved and built."""
-    if subprocess.run([ROOT / "bin" / "bench", "/dev/null"]).returncode:
-        raise Failure("the bench could not be built")
-    return ROOT / "target" / "bin" / "bench_main"
-
-
-def own_health(names):
-    """The health tests' program over the static library of this repository, where a check needs it."""
+def own_programs(names, bench):
+    """The bench, given or of this repository, and the health tests' program over its static library, where a check
+    needs that. They are built in this process, so that rt ends with it."""
     try:
-        return health_program("checklist") if "april" in names else None
+        program = bench or bench_program("checklist")
+        return program, health_program("checklist") if "april" in names else None
     except NotBuilt as why:
         raise Failure(str(why)) from None
 
@@ -513,8 +508,8 @@ def answer_stale(parser, chosen):
     return 0
 
 
-def main():
-    parser = Parser("checklist", __doc__)
+def answer_checks(parser):
+    """The exit status."""
     parser.add_argument("check", choices=[*CHECKS, "year", "stale"])
     parser.add_argument("--log")
     parser.add_argument("--out", type=Path)
@@ -533,7 +528,7 @@ def main():
             station_log = chosen.log, log.read()
     names = [*CHECKS] if chosen.check == "year" else [chosen.check]
     try:
-        program, health = chosen.bench or own_bench(), own_health(names)
+        program, health = own_programs(names, chosen.bench)
         directory = chosen.out or Path(tempfile.mkdtemp(prefix="checklist-"))
         directory.mkdir(parents=True, exist_ok=True)
     except Failure as why:
@@ -544,6 +539,14 @@ def main():
     results = [passes(name, bench) for name in names]
     print(f"logs and answers: {directory}")
     return 0 if all(results) else 1
+
+
+def main():
+    end_on_signals()
+    try:
+        return answer_checks(Parser("checklist", __doc__))
+    except KeyboardInterrupt:
+        return 128 + signal.SIGINT
 
 
 if __name__ == "__main__":

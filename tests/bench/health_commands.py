@@ -1,13 +1,16 @@
 #!/usr/bin/env python3
 """Runs bin/health as a user does. It takes the static library as it stands, with LIBRARY_BUILT=1; what builds the
-library is tried with an rt that is played.
+library, and what ends a command that builds, is tried with an rt that is played.
 
     tests/bench/health_commands.py      a line for each check; exits 1 where one failed"""
 import os
 import shutil
+import signal
+import subprocess
 import sys
+import time
 
-from commands import ROOT, check_all, run, tell
+from commands import ROOT, check_all, expect, run, tell
 
 sys.path.append(str(ROOT / "tests" / "independent"))
 
@@ -25,6 +28,15 @@ echo "$@" >>"{0}/asked"
 [ ! -e "{0}/failing" ] || { echo 'rt: it fails'; exit 1; }
 mkdir -p target/staticlib
 cp "{1}" target/staticlib/libfortuna_c.a
+"""
+
+
+LONG = 60  # seconds, by far more than a command takes to start rt or to end it
+LONG_RT = """#!/bin/sh
+trap 'touch "{0}/ended"; exit 1' TERM
+touch "{0}/asked"
+sleep 100 &
+wait
 """
 
 
@@ -241,6 +253,49 @@ def builds(folder):
     fails_to_build(folder, words, archive, given, played)
 
 
+def ends_with_rt(folder):
+    """A signal that ends a command while rt runs ends rt too, and nothing is said."""
+    copy = copied(folder)
+    bench, checklist = (str(copy / "bin" / name) for name in ("bench", "checklist"))
+    played, given = with_rt(folder, LONG_RT)
+    for words in (
+        one_reading(copy, folder),
+        [bench, "one.txt"],
+        [checklist, "may"],
+        [checklist, "april", "--bench", "/bin/false"],
+    ):
+        for number in (signal.SIGTERM, signal.SIGHUP, signal.SIGINT):
+            ended_by(words, number, folder, played, given)
+
+
+def ended_by(words, number, folder, played, given):
+    """Gives a command a signal as soon as rt runs."""
+    for name in ("asked", "ended"):
+        (played / name).unlink(missing_ok=True)
+    started = subprocess.Popen(
+        words,
+        cwd=folder,
+        env=given,
+        stdout=subprocess.PIPE,
+        stderr=subprocess.PIPE,
+        # a shell has its background commands ignore it, and they hand that on
+        preexec_fn=lambda: signal.signal(signal.SIGINT, signal.SIG_DFL),
+    )
+    wait_for(played / "asked", words)
+    started.send_signal(number)
+    wait_for(played / "ended", words)
+    output, said = started.communicate(timeout=LONG)
+    expect(words, (started.returncode, output, said.decode()), 128 + number, None)
+
+
+def wait_for(path, words):
+    end = time.monotonic() + LONG
+    while not path.exists():
+        if time.monotonic() > end:
+            raise Failure(f"{' '.join(words)}: rt was not {path.name} after {LONG} s")
+        time.sleep(0.02)
+
+
 def fails_to_build(folder, words, archive, given, played):
     archive.unlink()
     tell(words, folder, 2, "LIBRARY_BUILT is set, and there is no", env={**given, "LIBRARY_BUILT": "1"})
@@ -252,7 +307,10 @@ def fails_to_build(folder, words, archive, given, played):
         tell(words, folder, 2, "the Rattle toolchain (rt) is not on the path", env={**given, "PATH": "/usr/bin:/bin"})
 
 
-CHECKS = (cutoffs, table, refuses, readings, tests, says_where_it_was_cut_off, gives_no_verdict, builds)
+CHECKS = (
+    *(cutoffs, table, refuses, readings, tests, says_where_it_was_cut_off, gives_no_verdict),
+    *(builds, ends_with_rt),
+)
 
 if __name__ == "__main__":
     sys.exit(check_all(CHECKS))
