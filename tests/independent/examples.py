@@ -1,6 +1,6 @@
 #!/usr/bin/env python3
-"""What the programs in examples/ must print, worked out by station.py and, for the log, logbook.py. Which reading fails
-a health test is worked out here, from all readings of the source at once: no test state is kept.
+"""What the programs in examples/ must print, worked out by station.py, for the log by logbook.py, and for the reading
+that fails a health test by health.py, from all readings of the source at once.
 
     tests/independent/examples.py                  prints it
     tests/independent/examples.py --check FILE     exits 1 where FILE differs"""
@@ -10,12 +10,18 @@ import sys
 import generator
 import logbook
 import station
+from health import FRESH, Health
 
 SEED = b"a seed from the workshop, other bytes for each digitiser".ljust(64, b"\0")
 SOURCES = (1, 2, 900)
 TURNS, READINGS = 64, 32
 STUCK_SOURCE, STUCK_TURN = 2, 40
-REPETITION, PROPORTION, WINDOW = 31, 325, 512
+REPETITION, PROPORTION = 31, 325
+TESTS = {  # by whether each test fails
+    (True, False): "the repetition count test",
+    (False, True): "the adaptive proportion test",
+    (True, True): "both tests",
+}
 LOG = b"010700A1B2\n050384003C\n02000000640010\nFF\n"
 
 
@@ -25,25 +31,13 @@ def readings(source, turn):
     return [(89 * source + 31 * turn + 7 * i) % 256 for i in range(READINGS)]
 
 
-def failed_tests(day, k):
-    """The tests that a source's reading k fails: the last C are equal; the first of its window has come C times."""
-    last = day[max(0, k + 1 - REPETITION) : k + 1]
-    window = day[k - k % WINDOW : k + 1]
-    repetition = last == [day[k]] * REPETITION
-    proportion = window.count(window[0]) >= PROPORTION
-    if repetition and proportion:
-        return "both tests"
-    return "the repetition count test" if repetition else "the adaptive proportion test" if proportion else None
-
-
 def failures():
     """The first reading of a source that fails, as its turn, the source, the place in the turn, and the tests."""
     for source in SOURCES:
         day = [reading for turn in range(TURNS) for reading in readings(source, turn)]
-        for k in range(len(day)):
-            if tests := failed_tests(day, k):
-                yield k // READINGS, source, k % READINGS, tests
-                break
+        found = Health(FRESH, day, REPETITION, PROPORTION).answer()
+        if tests := TESTS.get((found.repetition, found.proportion)):
+            yield found.place // READINGS, source, found.place % READINGS, tests
 
 
 def events(failed):
@@ -98,7 +92,7 @@ def main(args):
     with open(args[1], encoding="ascii") as stored:
         if stored.read() == text:
             return 0
-    print(f"{args[1]}: not what station.py and logbook.py in tests/independent work out", file=sys.stderr)
+    print(f"{args[1]}: not what station.py, logbook.py and health.py in tests/independent work out", file=sys.stderr)
     return 1
 
 
