@@ -130,8 +130,6 @@ static void set(fortuna_health *state, char *rest)
 
 static const char *told(fortuna_health_answer a)
 {
-    if (fortuna_health_passed(a) != (a.number == FORTUNA_DONE && !a.repetition && !a.proportion))
-        stop("fortuna_health_passed is not what the answer says");
     if (a.repetition)
         return a.proportion ? "both" : "repetition";
     return a.proportion ? "proportion" : "none";
@@ -173,8 +171,28 @@ static void answer(fortuna_health *state, char *line)
            state->last, state->run, state->first, state->count, state->seen);
 }
 
+/* fortuna_health_passed of answers as they come, and of some that don't: the place decides nothing. */
+static void check_passed(void)
+{
+    static const struct {
+        fortuna_health_answer answer;
+        bool passed;
+    } rows[] = {
+        {{0, false, false, 0}, true},   {{0, false, false, 7}, true},
+        {{0, true, false, 0}, false},   {{0, true, false, 7}, false},
+        {{0, false, true, 0}, false},   {{0, false, true, 7}, false},
+        {{0, true, true, 0}, false},    {{0, true, true, 7}, false},
+        {{34, false, false, 0}, false}, {{34, false, false, 7}, false},
+        {{35, false, false, 0}, false}, {{35, false, false, 7}, false},
+    };
+    for (size_t i = 0; i < sizeof rows / sizeof rows[0]; i++)
+        if (fortuna_health_passed(rows[i].answer) != rows[i].passed)
+            stop("fortuna_health_passed is not what an answer says");
+}
+
 int main(void)
 {
+    check_passed();
     fortuna_health state = fortuna_health_new();
     char *line = NULL;
     size_t room = 0;
