@@ -3,7 +3,7 @@ whatever.
 
 Nothing here is carried from sample to sample. Whether a sample fails a test is told by its place: by slices and counts
 of the list of all samples up to it. The state left is told in the same way, by the samples at the list's end. The
-proved program goes by steps, so that the two have no way of being wrong in common.
+proved program goes by steps, so that the two have no step in common.
 
 An answer is the number (0, 34 or 35), the place of the first sample that fails (from 0, and 0 where none does), whether
 it fails the repetition count test and the adaptive proportion test, and the next state."""
