@@ -22,6 +22,7 @@ from program import Failure, compare, run
 
 REPORT_EVERY = 5  # seconds
 SHORTENING = 20  # seconds
+MOST_LOGS = 1000  # after which nothing that is missing is waited for
 
 
 class Writer:
@@ -195,12 +196,13 @@ def report(program, log, answers):
     print(f"the log is {path}, the answers that were worked out are beside it")
 
 
-def fuzz(program, seconds, seed, writer=Writer, answers=answers_to):
-    """Logs by a writer, whose right answers a function works out."""
+def fuzz(program, seconds, seed, writer=Writer, answers=answers_to, missing=lambda: False):
+    """Logs by a writer, whose right answers a function works out. Past its seconds it goes on while what must come is
+    missing, up to MOST_LOGS: by a count and not by a time, so that a slow machine fails no oftener than a fast one."""
     chance = random.Random(seed)
     start = shown = time.monotonic()
     logs = lines = 0
-    while time.monotonic() < start + seconds:
+    while time.monotonic() < start + seconds or (missing() and logs < MOST_LOGS):
         log = writer(chance).log()
         if difference(program, log, answers):
             report(program, log, answers)

@@ -4,7 +4,8 @@
     health_runs.py --write DIRECTORY       writes the stored scripts and their answers
     health_runs.py --check DIRECTORY       makes them again and exits 1 where a stored file differs
     health_runs.py --against PROGRAM [--seconds S] [--seed N]
-                                           random scripts to health.c, beside this
+                                           random scripts to health.c, beside this, for S seconds, and on until
+                                           all that must occur has come
     health_runs.py --self-test             wrong versions of tests/independent/health.py, each of which a stored script
                                            must tell from the right one
 
@@ -14,6 +15,7 @@ import argparse
 import random
 import sys
 from collections import Counter
+from itertools import cycle, product
 from pathlib import Path
 
 sys.path += [str(Path(__file__).resolve().parents[1] / folder) for folder in ("independent", "bench")]
@@ -189,36 +191,55 @@ def files():
 # ---- scripts at random
 
 
-def near_clause(r, repetition, proportion):
-    """A state at the bound of one clause of 35, a step to either side of it."""
-
-    def near(bound):
-        return min(max(bound + r.randrange(-1, 2), 0), LARGEST)
-
+def at_bounds(r, repetition, proportion):
+    """For each clause of 35 good states at its bound, and states that break it. With cutoffs in range they break it
+    alone, but for a count from 512 on, which no window that is not full has."""
+    last, first = r.choices((0, 1, 9, LARGEST), k=2)
     run, seen = r.randrange(1, max(repetition, 2)), r.randrange(1, FULL)
-    good = State(r.choice((0, 1, 9, LARGEST)), run, r.choice((0, 1, 9, LARGEST)), 1, seen)
-    return r.choice(
-        (
-            good._replace(run=near(repetition)),
-            good._replace(count=near(proportion), seen=511),
-            good._replace(count=near(min(seen, proportion))),
-            good._replace(seen=near(FULL)),
-            good._replace(count=r.randrange(2), seen=r.randrange(2)),
-            good._replace(run=r.randrange(2), last=r.randrange(2)),
-            State(good.last, run, r.randrange(2), 0, r.randrange(2)),
-            State(r.randrange(2), r.randrange(2), 0, 0, 0),
-            State(*(r.getrandbits(32) for _ in range(5))),
-        )
-    )
+    good = State(last, run, first, 1, seen)
+    unseen = good._replace(first=0, count=0, seen=0)
+    few = r.randrange(max(min(proportion - 1, FULL), 1))  # seen, and one more is still no count at its cutoff
+    counted = good._replace(first=first if few else 0, count=few, seen=few)
+    late = good._replace(seen=FULL - 1)
+    return {
+        "run at its cutoff": (
+            [good._replace(run=repetition - 1)],
+            [good._replace(run=repetition), good._replace(run=repetition + 1)],
+        ),
+        "count at its cutoff": (
+            [late._replace(count=proportion - 1)],
+            [late._replace(count=proportion), late._replace(count=proportion + 1)],
+        ),
+        "count above seen": ([counted], [counted._replace(count=few + 1)]),
+        "window full": ([late], [good._replace(seen=FULL), good._replace(seen=FULL + 1)]),
+        "seen without count": (
+            [good._replace(seen=1), unseen],
+            [good._replace(count=0), good._replace(count=0, seen=1)],
+        ),
+        "seen without run": ([good._replace(run=1), FRESH], [good._replace(last=0, run=0)]),
+        "first without seen": (
+            [good._replace(first=1, seen=1), unseen],
+            [unseen._replace(first=1), unseen._replace(first=9)],
+        ),
+        "last without run": ([unseen._replace(last=1, run=1), FRESH], [FRESH._replace(last=1), FRESH._replace(last=9)]),
+    }
 
 
-def any_state(r, repetition, proportion):
-    """Fresh, one that is taken with cutoffs in range, or one at a clause's bound."""
+def near_clause(r, clause, repetition, proportion):
+    """A state at the bound of a clause of 35, a good one as often as one that breaks it."""
+    found = r.choice(r.choice(at_bounds(r, repetition, proportion)[clause]))
+    return State(*(min(max(number, 0), LARGEST) for number in found))
+
+
+def any_state(r, clauses, repetition, proportion):
+    """Fresh, at a clause's bound, any numbers, or one that is taken with cutoffs in range. The clauses take turns."""
     kind = r.random()
     if kind < 0.3:
         return FRESH
+    if kind < 0.57:
+        return near_clause(r, next(clauses), repetition, proportion)
     if kind < 0.6:
-        return near_clause(r, repetition, proportion)
+        return State(*(r.getrandbits(32) for _ in range(5)))
     seen = r.choice((0, 1, 510, 511, r.randrange(FULL)))
     count = r.randrange(1, max(min(seen, proportion - 1), 1) + 1) if seen else 0
     run = r.randrange(1, max(repetition, 2))
@@ -257,6 +278,7 @@ class Writer:
     """Writes one script, and counts in `occurred` what its answers are."""
 
     occurred = Counter()
+    clauses = cycle(Health.clauses)
 
     def __init__(self, chance):
         self.chance = chance
@@ -267,7 +289,7 @@ class Writer:
             (repetition, proportion), samples, kept = *late(r), FRESH
         else:
             (repetition, proportion), samples = any_cutoffs(r), any_samples(r)
-            kept = any_state(r, repetition, proportion)
+            kept = any_state(r, self.clauses, repetition, proportion)
         parts = parts_of(samples, [r.randrange(len(samples) + 1) for _ in range(r.choice((0, 1, 2, 5)))])
         self.compare(Health(kept, samples, repetition, proportion), parts)
         return cut(kept, parts, repetition, proportion)
@@ -306,18 +328,22 @@ MUST_OCCUR = {
 }
 
 
+def missing():
+    return MUST_OCCUR - set(Writer.occurred)
+
+
 def against(program, seconds, seed):
     print(f"seed {seed}", flush=True)
     try:
-        status = fuzz.fuzz(program, seconds, seed, Writer, answers_to)
+        status = fuzz.fuzz(program, seconds, seed, Writer, answers_to, missing)
     except Failure as why:
         print(f"FAIL  {why}")
         return 1
     print(", ".join(f"{what}: {times}" for what, times in sorted(Writer.occurred.items())))
-    missing = MUST_OCCUR - set(Writer.occurred)
-    if missing:
-        print(f"FAIL  never occurred: {', '.join(sorted(missing))}")
-    return 1 if missing else status
+    if status == 0 and missing():
+        print(f"FAIL  never occurred: {', '.join(sorted(missing()))}")
+        return 1
+    return status
 
 
 # ---- wrong versions
@@ -502,9 +528,23 @@ def place_told(version, scripts):
     return None
 
 
+def bounds_hold():
+    """Whether the states at the clauses' bounds, by which random scripts come to them, are what they are called."""
+    r = random.Random("bounds")
+    for cutoffs_of in product((2, 3, 90, 510, 511, 512), repeat=2):
+        for clause, (good, bad) in (item for _ in range(30) for item in at_bounds(r, *cutoffs_of).items()):
+            if any(Health(kept, [], *cutoffs_of).broken() for kept in good):
+                return False
+            if any(Health(kept, [], *cutoffs_of).broken() != [clause] for kept in bad if kept.count < FULL):
+                return False
+    return True
+
+
 def self_test():
     scripts = {name: (lines, list(script.answers(lines))) for name, lines in stored().items()}
-    failed = place_told(wrong("is right"), scripts) is not None  # what is not wrong is not told
+    at_clauses = bounds_hold()
+    print(f"{'pass' if at_clauses else 'FAIL'}  states at the bounds of the clauses of 35")
+    failed = not at_clauses or place_told(wrong("is right"), scripts) is not None  # what is not wrong is not told
     for version in (*WRONG_REFUSALS, *WRONG_TESTS, *WRONG_ANSWERS, *wrong_clauses()):
         place = place_told(version, scripts)
         failed |= place is None
