@@ -27,9 +27,11 @@ class NotBuilt(Exception):
 
 
 def end_on_signals():
-    """A signal that ends a command ends it by an exception, so that what it started ends too."""
+    """A signal that ends a command ends it by an exception, so that what it started ends too. One that nohup has set
+    aside stays so."""
     for number in (signal.SIGTERM, signal.SIGHUP):
-        signal.signal(number, lambda number, _: sys.exit(128 + number))
+        if signal.getsignal(number) is not signal.SIG_IGN:
+            signal.signal(number, lambda number, _: sys.exit(128 + number))
 
 
 def say(name, text):
