@@ -57,7 +57,8 @@ Serves s clock n emptied next bytes =
 
 -- ---- requests and writes
 
-servable : (s : Fortuna) (clock n : ℕ) → n ≤ Generator.maxRequest → OutputPassed (malformed s) (counterOf s) (due s clock) (blockCount n + 2) → Servable s clock n
+servable : (s : Fortuna) (clock n : ℕ) → n ≤ Generator.maxRequest
+    → OutputPassed (malformed s) (counterOf s) (due s clock) (blockCount n + 2) → Servable s clock n
 servable s clock n short p =
     record {
       pools = pools-formed s (p .formed);
@@ -80,7 +81,8 @@ module _ (s : Fortuna) (clock : ℕ) (seed : List ℕ) (ok : writeNumber (malfor
       rw write-sized
       (servable s clock seedSize (unfold seedSize in small-request 64 (lit≤ tt)) (write-passed (malformed s) (counterOf s) (due s clock) seed ok))
 
-  pub write-serves : (emptied : ℕ) (next : Fortuna) (bytes : List ℕ) → Serves s clock (length seed) emptied next bytes → Serves s clock seedSize emptied next bytes
+  pub write-serves : (emptied : ℕ) (next : Fortuna) (bytes : List ℕ) → Serves s clock (length seed) emptied next bytes
+      → Serves s clock seedSize emptied next bytes
   write-serves emptied next bytes e = rw write-sized at e
 
 -- ---- an update: the seed's reseed is accepted, and the request after it
