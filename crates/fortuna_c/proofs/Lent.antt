@@ -41,15 +41,19 @@ module _ (S : Declared) (laws : LL.Laws S) where
 
   module _ {M : Type 1} {𝓤 : URA M} {H : Heap 𝓤} {A : Atoms 𝓤} {K : Type 0} {W : Given 𝓤 H A} {Γ : List (Item 𝓤)} {G : Goal 𝓤 H} where
     pub opened-whole : K → Soaks G → {κ : Lft} {q : Share} {γ : GName} (h : S .D) (b o : ℕ)
-        → (IsWhole h → Seq K W (‵ (wholeAt h b o) ∷ ‵ (fobor κ q (Body (mem (row S)) b o γ)) ∷ ‵ (seesWhole γ h) ∷ ‵ (fauth γ (row S .coded .code h)) ∷ Γ) G)
+        → (IsWhole h
+        → Seq K W
+        (‵ (wholeAt h b o) ∷ ‵ (fobor κ q (Body (mem (row S)) b o γ)) ∷ ‵ (seesWhole γ h) ∷ ‵ (fauth γ (row S .coded .code h)) ∷ Γ) G)
         → Seq K W (‵ (seesWhole γ h) ∷ ‵ (lentWhole κ γ b o) ∷ ‵ (flft κ q) ∷ Γ) G
-    opened-whole t z h b o k = opens t z (row S) {h = h} b o (λ vs. spelt t (row S) (Is (row S)) (shows 𝓤 H A (row S)) (LL.vals S laws) (LL.tells S laws) fullShare h vs b o $
+    opened-whole t z h b o k = opens t z (row S) {h = h} b o (λ vs.
+        spelt t (row S) (Is (row S)) (shows 𝓤 H A (row S)) (LL.vals S laws) (LL.tells S laws) fullShare h vs b o $
         move t (1 ∷ []) $ facts t (row S) (Is (row S)) (shows 𝓤 H A (row S)) h (machine h ∷ []) k)
 
     pub shut-whole : Plains (fields S) → K → Soaks G → {κ : Lft} {q : Share} {u v : Gv} {γ : GName} (d : S .D) → IsWhole d → (b o : ℕ)
         → Step K W (‵ (seesWhole γ d) ∷ ‵ (lentWhole κ γ b o) ∷ ‵ (flft κ q) ∷ Γ) G
         (‵ (wholeAt d b o) ∷ ‵ (fobor κ q (Body (mem (row S)) b o γ)) ∷ ‵ (fobs γ u) ∷ ‵ (fauth γ v) ∷ Γ) G
-    shut-whole plain t z d is b o = step (λ s. owned t (row S) (Is (row S)) (LL.makes S plain 𝓤 H A) d _ is $ move t (1 ∷ 0 ∷ []) $ closes t z (row S) d (machine d ∷ []) b o $ s)
+    shut-whole plain t z d is b o = step (λ s.
+        owned t (row S) (Is (row S)) (LL.makes S plain 𝓤 H A) d _ is $ move t (1 ∷ 0 ∷ []) $ closes t z (row S) d (machine d ∷ []) b o $ s)
 
 -- ---- of a station
 
@@ -70,7 +74,9 @@ lent κ γ b o = fbor κ (Body (mem T.the-row) b o γ)
 
 module _ {M : Type 1} {𝓤 : URA M} {H : Heap 𝓤} {A : Atoms 𝓤} {K : Type 0} {W : Given 𝓤 H A} {Γ : List (Item 𝓤)} {G : Goal 𝓤 H} where
   pub opened : K → Soaks G → {κ : Lft} {q : Share} {γ : GName} (h : Fortuna) (b o : ℕ)
-      → (IsState h → Seq K W (‵ (stateAt h b o) ∷ ‵ (fobor κ q (Body (mem T.the-row) b o γ)) ∷ ‵ (sees γ h) ∷ ‵ (fauth γ (T.the-row .coded .code h)) ∷ Γ) G)
+      → (IsState h
+      → Seq K W
+      (‵ (stateAt h b o) ∷ ‵ (fobor κ q (Body (mem T.the-row) b o γ)) ∷ ‵ (sees γ h) ∷ ‵ (fauth γ (T.the-row .coded .code h)) ∷ Γ) G)
       → Seq K W (‵ (sees γ h) ∷ ‵ (lent κ γ b o) ∷ ‵ (flft κ q) ∷ Γ) G
   opened t z h b o k = opened-whole T.the-type T′.the-laws t z h b o k
 

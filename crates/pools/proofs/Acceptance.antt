@@ -84,7 +84,8 @@ unfolding writeNumber
 write-passed m c due seed e =
     output-passed m c due (blockCount seedSize + 2) (both-passed (seedInput seed) (outputState m c due (blockCount seedSize + 2)) e .1)
 
-pub write-room : (m : Bool) (c : ℕ) (due : Bool) (seed : List ℕ) → writeNumber m c due seed ≡ 0 → c + cond due 1 0 + (blockCount seedSize + 2) ≤ maxCounter
+pub write-room : (m : Bool) (c : ℕ) (due : Bool) (seed : List ℕ) → writeNumber m c due seed ≡ 0
+    → c + cond due 1 0 + (blockCount seedSize + 2) ≤ maxCounter
 write-room m c due seed e = not-spent c due (blockCount seedSize + 2) (write-passed m c due seed e .room)
 
 pub update-size : (m : Bool) (c : ℕ) (due : Bool) (seed : List ℕ) → updateNumber m c due seed ≡ 0 → length seed ≡ seedSize

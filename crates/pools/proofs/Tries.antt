@@ -127,7 +127,8 @@ module _ (s : Fortuna) (clock : ℕ) where
   made-is : counterOf s + cond (due s clock) 1 0 + 3 ≤ maxCounter → made .count ≡ counterOf s + cond (due s clock) 1 0 + 3
   unfolding made trySize
   made-is room =
-      let held : decode (reseedIfDue s clock .generator) .count ≡ counterOf s + cond (due s clock) 1 0 = unfold counterOf in held-count s clock (omega arith) in
+      let held : decode (reseedIfDue s clock .generator) .count ≡ counterOf s + cond (due s clock) 1 0 =
+      unfold counterOf in held-count s clock (omega arith) in
       random-data-count (decode (reseedIfDue s clock .generator)) 4 ∙ rw (held, try-blocks)
 
   pub passing-next : (k : ℕ) → length (s .pools) ≡ poolCount → Passing s clock (suc k) → Passing (tryAt clock s .next) clock k

@@ -131,7 +131,8 @@ module _ (b : Reference) (buffer : List ℕ) (n m : ℕ) (e : n ≡ m) where
   unfolding effectOf
   effect-concrete x y h = ap (λ (k : ℕ). guarded k x (unchanged buffer (concrete b))) e ∙ go (eqb m 0) (λ t. h (eqb-true m 0 t))
     where
-      go : (t : Bool) → (t ≡ true → x ≡ concreteEffect y) → cond t x (unchanged buffer (concrete b)) ≡ concreteEffect (cond t y (unchanged buffer b))
+      go : (t : Bool) → (t ≡ true → x ≡ concreteEffect y)
+          → cond t x (unchanged buffer (concrete b)) ≡ concreteEffect (cond t y (unchanged buffer b))
       go true f = f refl
       go false f = unfold unchanged concreteEffect in refl
 
@@ -139,7 +140,8 @@ module _ (b : Reference) (buffer : List ℕ) (n m : ℕ) (e : n ≡ m) where
   guarded-same : (v w : ℕ) → (m ≡ 0 → v ≡ w) → guarded n v 0 ≡ guarded m w 0
   guarded-same v w h = ap (λ (k : ℕ). guarded k v 0) e ∙ cond-cong (eqb m 0) (λ t. h (eqb-true m 0 t)) (λ t. refl)
 
-  outcome-concrete : (f g : Bool) (v w : ℕ) (x : Effect Fortuna) (y : Effect Reference) → (m ≡ 0 → f ≡ g) → (m ≡ 0 → v ≡ w) → (m ≡ 0 → x ≡ concreteEffect y)
+  outcome-concrete : (f g : Bool) (v w : ℕ) (x : Effect Fortuna) (y : Effect Reference)
+      → (m ≡ 0 → f ≡ g) → (m ≡ 0 → v ≡ w) → (m ≡ 0 → x ≡ concreteEffect y)
       → outcome n f v buffer (concrete b) x ≡ concreteOutcome (outcome m g w buffer b y)
   unfolding outcome concreteOutcome concreteEffect
   outcome-concrete f g v w x y p q h = λ i. record {
@@ -157,7 +159,8 @@ pub step-sound : (place : ℕ) (b : Reference) → Sound b → (c : Call) → So
 unfolding referenceStep outcome
 step-sound place b s c = outcome-keeps Sound _ (inputBuffer c) b _ s (effect-sound b s place c)
 
-pub next-agrees : (place : ℕ) (b : Reference) → Sound b → (c : Call) → step (concrete b) c .effect .next ≡ concrete (referenceStep place b c .effect .next)
+pub next-agrees : (place : ℕ) (b : Reference) → Sound b → (c : Call)
+    → step (concrete b) c .effect .next ≡ concrete (referenceStep place b c .effect .next)
 unfolding concreteOutcome
 next-agrees place b s c = ap (λ (o : Outcome Fortuna). o .effect .next) (step-agrees place b s c)
 
@@ -220,7 +223,8 @@ agrees calls =
 -- ---- a run is its calls' steps
 
 run-more : (calls : List Call) (place : ℕ) (s : Fortuna) (c : Call)
-    → runFrom (λ place. step) place s (calls ++ (c ∷ [])) ≡ runFrom (λ place. step) place s calls ++ (step (stateFrom (λ place. step) place s calls) c ∷ [])
+    → runFrom (λ place. step) place s (calls ++ (c ∷ []))
+    ≡ runFrom (λ place. step) place s calls ++ (step (stateFrom (λ place. step) place s calls) c ∷ [])
 unfolding runFrom stateFrom
 run-more [] place s c = refl
 run-more (x ∷ calls) place s c = ap {B = List (Outcome Fortuna)} (λ l. step s x ∷ l) (run-more calls (suc place) (step s x .effect .next) c)

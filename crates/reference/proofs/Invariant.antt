@@ -160,7 +160,8 @@ count-reseed-if-due b t = go (dueAt b t)
     go true = refl
     go false = omega arith
 
-pub sound-reseed-if-due : (b : Reference) (t : ℕ) → b .generator .count + cond (dueAt b t) 1 0 ≤ maxCounter → Sound b → Sound (referenceReseedIfDue b t)
+pub sound-reseed-if-due : (b : Reference) (t : ℕ) → b .generator .count + cond (dueAt b t) 1 0 ≤ maxCounter
+    → Sound b → Sound (referenceReseedIfDue b t)
 unfolding referenceReseedIfDue
 sound-reseed-if-due b t h s = go (dueAt b t) h
   where

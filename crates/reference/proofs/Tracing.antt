@@ -158,7 +158,8 @@ event-tags place t b source pool content g =
 
     one :
         (i : ℕ) →
-        map pieceOf (cond (pending (b .reseeds) i e) (e ∷ []) []) ≡ cond (eqb pool i) (record { place = place; bytes = eventBytes source content } ∷ []) []
+        map pieceOf (cond (pending (b .reseeds) i e) (e ∷ []) [])
+        ≡ cond (eqb pool i) (record { place = place; bytes = eventBytes source content } ∷ []) []
     one i = ap (λ (u : Bool). map pieceOf (cond u (e ∷ []) [])) (new-pending i e) ∙ cases (eqb pool i)
 
 -- ---- a request or a seed call

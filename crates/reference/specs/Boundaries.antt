@@ -91,7 +91,8 @@ EventRow =
 -- input numbers before 21
 abbrev pub EventOrderRow : Type 0
 EventOrderRow =
-    answers keyedUnseeded (event 65536 0 (1 ∷ []) ∷ event 0 32 (1 ∷ []) ∷ event 0 0 [] ∷ event 0 0 (1 ∷ []) ∷ []) ≡ 11 ∷ 12 ∷ 13 ∷ 21 ∷ []
+    answers keyedUnseeded (event 65536 0 (1 ∷ []) ∷ event 0 32 (1 ∷ []) ∷ event 0 0 [] ∷ event 0 0 (1 ∷ []) ∷ [])
+    ≡ 11 ∷ 12 ∷ 13 ∷ 21 ∷ []
 
 -- the source in two bytes, least significant first, and the length
 abbrev pub HeaderRow : Type 0
@@ -120,7 +121,8 @@ RequestRow =
 -- 15 before 21; a write is 23 where unseeded and takes 6, an update seeds and takes 7, either one more with a due reseed
 abbrev pub SeedRow : Type 0
 SeedRow =
-    answers keyedUnseeded (update 0 (replicate 63 1) ∷ update 0 (replicate 65 1) ∷ update 0 (replicate 64 1) ∷ write 0 [] ∷ write 0 (replicate 64 1) ∷ [])
+    answers keyedUnseeded
+    (update 0 (replicate 63 1) ∷ update 0 (replicate 65 1) ∷ update 0 (replicate 64 1) ∷ write 0 [] ∷ write 0 (replicate 64 1) ∷ [])
     ++ answers fresh (update 0 (replicate 64 1) ∷ write 0 (replicate 64 1) ∷ [])
     ++ answers (withFirstPool fresh (wholeBlocks 64)) (write 0 (replicate 64 1) ∷ [])
     ≡ 15 ∷ 15 ∷ 21 ∷ 15 ∷ 21 ∷ 0 ∷ 23 ∷ 0 ∷ []
@@ -249,7 +251,9 @@ ListSizeRow = refusals (seededState 1) (shuffle 0 (tabulate (λ (i : ℕ). i) 25
 
 -- the rule of draws on given bytes: server i answers with the i-th string, and the first empties a pool
 unfoldable pub strings4 : List (List ℕ)
-strings4 = (0xff ∷ 0 ∷ 0 ∷ 0 ∷ []) ∷ (0x0b ∷ 0xff ∷ 0xff ∷ 0xff ∷ []) ∷ (4 ∷ 0 ∷ 0 ∷ 0 ∷ []) ∷ (1 ∷ 0 ∷ 0 ∷ 0 ∷ []) ∷ (0 ∷ 0 ∷ 0 ∷ 0 ∷ []) ∷ []
+strings4 =
+    (0xff ∷ 0 ∷ 0 ∷ 0 ∷ []) ∷ (0x0b ∷ 0xff ∷ 0xff ∷ 0xff ∷ [])
+    ∷ (4 ∷ 0 ∷ 0 ∷ 0 ∷ []) ∷ (1 ∷ 0 ∷ 0 ∷ 0 ∷ []) ∷ (0 ∷ 0 ∷ 0 ∷ 0 ∷ []) ∷ []
 
 unfoldable pub given : ℕ → Effect ℕ
 given i = record { emptied = cond (eqb i 0) 1 0; buffer = getD strings4 i []; next = i + 1; trace = [] }
@@ -278,7 +282,8 @@ late i =
 -- the list is as it was
 abbrev pub LateRow : Type 0
 LateRow =
-    map (λ (i : ℕ). shuffled late (10 ∷ 11 ∷ 12 ∷ 13 ∷ []) i .effect .buffer) (0 ∷ 1 ∷ []) ≡ (10 ∷ 11 ∷ 12 ∷ 13 ∷ []) ∷ (11 ∷ 12 ∷ 10 ∷ 13 ∷ []) ∷ []
+    map (λ (i : ℕ). shuffled late (10 ∷ 11 ∷ 12 ∷ 13 ∷ []) i .effect .buffer) (0 ∷ 1 ∷ [])
+    ≡ (10 ∷ 11 ∷ 12 ∷ 13 ∷ []) ∷ (11 ∷ 12 ∷ 10 ∷ 13 ∷ []) ∷ []
 
 abbrev pub LateFoundRow : Type 0
 LateFoundRow =
@@ -355,14 +360,16 @@ countAfter s c = step s c .effect .next .«key_requests»
 abbrev pub CountRow : Type 0
 CountRow =
     (fresh .«key_requests» ≡ 0)
-    × (map (λ (n : ℕ). countAfter (withRequests (seededState 1) n) (request 0 [])) (0 ∷ 9 ∷ 65534 ∷ 65535 ∷ []) ≡ 1 ∷ 10 ∷ 65535 ∷ 65535 ∷ [])
+    × (map (λ (n : ℕ). countAfter (withRequests (seededState 1) n) (request 0 [])) (0 ∷ 9 ∷ 65534 ∷ 65535 ∷ [])
+    ≡ 1 ∷ 10 ∷ 65535 ∷ 65535 ∷ [])
     × (map (countAfter (withRequests (seededState 1) 9)) (update 0 firstSeed ∷ write 0 firstSeed ∷ []) ≡ 10 ∷ 10 ∷ [])
     × (countAfter fresh (update 0 firstSeed) ≡ 1)
 
 -- the one that makes a pool reseed leaves 1: reading 100 is not due, 101 is
 abbrev pub CountAnewRow : Type 0
 CountAnewRow =
-    map (λ (clock : ℕ). map (countAfter (withRequests (reseededState 1 1 0) 9)) (request clock [] ∷ update clock firstSeed ∷ write clock firstSeed ∷ []))
+    map (λ (clock : ℕ). map (countAfter (withRequests (reseededState 1 1 0) 9))
+    (request clock [] ∷ update clock firstSeed ∷ write clock firstSeed ∷ []))
     (100 ∷ 101 ∷ [])
     ≡ (10 ∷ 10 ∷ 10 ∷ []) ∷ (1 ∷ 1 ∷ 1 ∷ []) ∷ []
 
@@ -370,7 +377,8 @@ CountAnewRow =
 abbrev pub CountKeptRow : Type 0
 CountKeptRow =
     (map (countAfter (withRequests (seededState 1) 9))
-    (event 7 0 (1 ∷ []) ∷ shuffle 0 [] ∷ shuffle 0 (5 ∷ []) ∷ event 7 32 (1 ∷ []) ∷ update 0 [] ∷ write 0 [] ∷ draw 0 0 1 ∷ shuffle 0 (5 ∷ 5 ∷ []) ∷ [])
+    (event 7 0 (1 ∷ []) ∷ shuffle 0 [] ∷ shuffle 0 (5 ∷ []) ∷ event 7 32 (1 ∷ [])
+    ∷ update 0 [] ∷ write 0 [] ∷ draw 0 0 1 ∷ shuffle 0 (5 ∷ 5 ∷ []) ∷ [])
     ≡ replicate 8 9)
     × (map (countAfter (withRequests (seededState (2 ^ 128 - 1)) 9))
     (request 0 [] ∷ update 0 firstSeed ∷ write 0 firstSeed ∷ draw 0 6 1 ∷ shuffle 0 (5 ∷ 6 ∷ []) ∷ [])

@@ -80,7 +80,8 @@ repeat-next s i h = rw (add-one i, drop-cons s i 0 h)
 pub repeat-here : (s : List ℕ) (i : ℕ) → i < length s → isIn (getD s i 0) (drop (i + 1) s) ≡ true → hasRepeat (drop i s) ≡ true
 repeat-here s i h e = rw (repeat-next s i h, e)
 
-pub repeat-past : (s : List ℕ) (i : ℕ) → i < length s → isIn (getD s i 0) (drop (i + 1) s) ≡ false → hasRepeat (drop i s) ≡ hasRepeat (drop (i + 1) s)
+pub repeat-past : (s : List ℕ) (i : ℕ) → i < length s → isIn (getD s i 0) (drop (i + 1) s) ≡ false
+    → hasRepeat (drop i s) ≡ hasRepeat (drop (i + 1) s)
 repeat-past s i h e = rw (repeat-next s i h, e)
 
 pub repeat-end : (s : List ℕ) (i : ℕ) → length s ≤ i → hasRepeat (drop i s) ≡ false

@@ -11,9 +11,6 @@ use borrow.Author.Needs.{needs}
 use Rattle.hash.proofs.hasher.extended.Statement.{statement}
 use Rattle.hash.proofs.hasher.extended.Tie as tie
 
--- `hash::hasher::extended` meets its contract.
--- Assumes nothing.
-
 tail-long : (c : tie.Start) → ListN.length (c .args .r .tail) ≡ 64
 tail-long c = search needs
 
@@ -29,7 +26,8 @@ filled-requires c κs = search needs
 
 returns : tie.Need-returns
 returns c =
-    let a = c .before .before .before .before .before .before .before .args in
+    let counted = c .before .before .before in
+    let a = counted .before .before .before .before .args in
     rw (c .filled .ensures) (absorb-short (a .r) (a .«data» .now) (search needs) (omega arith))
 
 constants-requires : tie.Need-constants-requires
@@ -40,7 +38,9 @@ after-blocks-requires c κs = search needs
 
 returns-2 : tie.Need-returns-2
 returns-2 c =
-    let a = c .before .before .before .before .before .before .before .before .before .before .args in
+    let enough = c .before .before .before .before in
+    let counted = enough .before .before in
+    let a = counted .before .before .before .before .args in
     c .after-blocks .ensures ∙ absorb-whole (a .r) (a .«data» .now) (omega arith)
 
 sub-room : tie.Need-sub-room
@@ -48,12 +48,16 @@ sub-room c = search needs
 
 slice-aggregate-filled : tie.Need-slice-aggregate-filled
 slice-aggregate-filled c =
-    let a = c .before .before .before .before .before .before .before .before .before .args in
+    let enough = c .before .before .before in
+    let counted = enough .before .before in
+    let a = counted .before .before .before .before .args in
     sym (length-take-le (64 - a .r .length % 64) (a .«data» .now) (omega arith))
 
 filled-requires-2 : tie.Need-filled-requires-2
 filled-requires-2 c κs =
-    let a = c .before .before .before .before .before .before .before .before .before .args in
+    let enough = c .before .before .before in
+    let counted = enough .before .before in
+    let a = counted .before .before .before .before .args in
     rw (length-take-le (64 - a .r .length % 64) (a .«data» .now) (omega arith)) (omega arith)
 
 slice-aggregate-compress : tie.Need-slice-aggregate-compress
