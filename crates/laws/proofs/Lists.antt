@@ -2,7 +2,7 @@
 -- Assumes nothing.
 use mathlib.Core.Path.{_≡_, refl, sym, ap, _∙_}
 use mathlib.Core.Logic.{_≢_}
-use mathlib.Core.Bool.{true}
+use mathlib.Core.Bool.{true, true≢false}
 use mathlib.Core.List.{List, [], _∷_, _++_, append-assoc, append-nil, map}
 use Prim.Native.Nat.{ℕ, zero, suc, _<_}
 use lib.Dec.{eqb}
@@ -10,7 +10,7 @@ use lib.ListN.{length, getD, set, replicate, length-set, length-replicate, getD-
 use lib.Seq.{ext-getD, getD-set-same, getD-set-other}
 use borrow.Author.Tests.{eqb-true, eqb-false, eq-eqb}
 use Rattle.laws.specs.Lists.{tabulate, allZero, sameList, joined}
-use Rattle.laws.proofs.Cases.{by-test}
+use Rattle.laws.proofs.Cases.{by-test, both}
 use Rattle.laws.proofs.Tabulate.{length-tabulate, getD-tabulate}
 
 -- ---- joined
@@ -68,3 +68,12 @@ pub sameList-refl : (l : List ℕ) → sameList l l ≡ true
 unfolding sameList
 sameList-refl [] = refl
 sameList-refl (x ∷ l) = rw (eq-eqb x x refl) (sameList-refl l)
+
+pub sameList-equal : (l m : List ℕ) → sameList l m ≡ true → l ≡ m
+unfolding sameList
+sameList-equal [] [] h = refl
+sameList-equal [] (y ∷ m) h = absurd (true≢false (sym h))
+sameList-equal (x ∷ l) [] h = absurd (true≢false (sym h))
+sameList-equal (x ∷ l) (y ∷ m) h =
+    let p = both (eqb x y) (sameList l m) h in
+    rw (eqb-true x y (p .0), sameList-equal l m (p .1))
