@@ -19,7 +19,7 @@ use Rattle.generator.specs.Refusals.{maxRequest}
 use Rattle.pools.specs.Events.{maxSource, poolCount, maxData, gain}
 use Rattle.pools.specs.Pool.{full}
 use Rattle.slots.specs.Shuffle.{hasRepeat}
-use Rattle.pools.specs.Refusals.{andThen, seedSize, maxBelow, maxTries, maxList, unseeded, spent, eventInput, eventState, eventNumber, requestInput, outputState, requestNumber, seedInput, writeNumber, updateState, updateNumber, drawInput, drawNumber, listInput, shuffleState, shuffleNumber}
+use Rattle.pools.specs.Refusals.{andThen, seedSize, maxBelow, maxTries, maxList, unseeded, spent, eventInput, eventState, eventNumber, requestInput, outputState, requestNumber, seedInput, writeNumber, blank, updateInput, updateState, updateNumber, drawInput, drawNumber, listInput, shuffleState, shuffleNumber}
 
 -- ---- two chains, one after the other
 
@@ -89,13 +89,15 @@ pub write-room : (m : Bool) (c : ℕ) (due : Bool) (seed : List ℕ) → writeNu
 write-room m c due seed e = not-spent c due (blockCount seedSize + 2) (write-passed m c due seed e .room)
 
 pub update-size : (m : Bool) (c : ℕ) (due : Bool) (seed : List ℕ) → updateNumber m c due seed ≡ 0 → length seed ≡ seedSize
-unfolding updateNumber
-update-size m c due seed e = sized seed (both-passed (seedInput seed) (updateState m c due) e .0)
+unfolding updateNumber updateInput
+update-size m c due seed e =
+    let input = both-passed (updateInput seed) (updateState m c due) e .0 in
+    sized seed (both-passed (seedInput seed) (refuse (blank seed) 36 0) input .0)
 
 pub update-passed : (m : Bool) (c : ℕ) (due : Bool) (seed : List ℕ) → updateNumber m c due seed ≡ 0 → (m ≡ false) × (spent c due 7 ≡ false)
 unfolding updateNumber updateState
 update-passed m c due seed e =
-    let s = both-passed (seedInput seed) (refuse m 21 (refuse (spent c due 7) 24 0)) e .1 in
+    let s = both-passed (updateInput seed) (refuse m 21 (refuse (spent c due 7) 24 0)) e .1 in
     let p = passed m 21 (refuse (spent c due 7) 24 0) (omega arith) s in
     (p .0, passed (spent c due 7) 24 0 (omega arith) (p .1) .0)
 

@@ -1,12 +1,13 @@
--- Bounds of what a call answers: its number has two digits, and no more pools are emptied than there are.
+-- Bounds of what a call answers: its number is one of a list, of two digits, and no more pools are emptied than there are.
 -- Assumes nothing.
+use mathlib.Core.Path.{_≡_, refl}
 use mathlib.Core.Bool.{Bool, true, false, cond, not, _||_}
 use mathlib.Core.List.{List, [], _∷_}
 use Prim.Native.Nat.{ℕ, zero, suc, _+_, _-_, _≤_, _<_, zero-le}
-use native.Mathlib.Nat.{le-trans}
 use native.Mathlib.Omega.{arith}
 use lib.Dec.{eqb, ltb, lit≤}
 use lib.ListN.{length, length-append}
+use Rattle.laws.specs.Lists.{countOf}
 use Rattle.laws.specs.Refusals.{refuse}
 use Rattle.laws.proofs.Cases.{split}
 use Rattle.slots.specs.Shuffle.{hasRepeat}
@@ -15,81 +16,108 @@ use Rattle.pools.specs.Events.{maxSource, poolCount, maxData, gain}
 use Rattle.pools.specs.Schedule.{used, usedBelow, usedPools}
 use Rattle.pools.specs.Pool.{full}
 use Rattle.pools.specs.State.{due}
-use Rattle.pools.specs.Refusals.{andThen, seedSize, maxBelow, maxTries, maxList, unseeded, spent, eventInput, eventState, eventNumber, requestInput, outputState, requestNumber, seedInput, writeNumber, updateState, updateNumber, drawInput, drawNumber, listInput, shuffleState, shuffleNumber}
+use Rattle.pools.specs.Refusals.{andThen, seedSize, maxBelow, maxTries, maxList, unseeded, spent, eventInput, eventState, eventNumber, requestInput, outputState, requestNumber, seedInput, writeNumber, blank, updateInput, updateState, updateNumber, drawInput, drawNumber, listInput, shuffleState, shuffleNumber}
 use Rattle.pools.specs.Effects.{unchanged, nextReseed, emptiedBy, randomData, updateSeed, writeSeed}
 use Rattle.pools.specs.Draws.{Drawn, leaving, tries, shuffleFrom, shuffled, tryAt}
 use Rattle.pools.specs.Calls.{Call, event, request, update, write, draw, shuffle, inputBuffer, callNumber, callEffect, callFound, effectOf, outcome, step}
-use Rattle.pools.specs.Promises.{number}
+use Rattle.pools.specs.Promises.{number, callNumbers, CallNumbersLaw, NoneDrawnLaw}
 use Rattle.pools.specs.declared.Fortuna.{Fortuna}
 use Rattle.pools.specs.declared.answer.Answer.{Answer}
-use Rattle.pools.specs.declared.answer.Answer.the-variants.{Done, SourceOutOfRange, PoolOutOfRange, DataLength, RequestTooLong, SeedSize, Malformed, PoolFull, Unseeded, CounterSpent, SlotRange, TryRange, NoneDrawn}
+use Rattle.pools.specs.declared.answer.Answer.the-variants.{Done, SourceOutOfRange, PoolOutOfRange, DataLength, RequestTooLong, SeedSize, Malformed, PoolFull, Unseeded, CounterSpent, SlotRange, TryRange, NoneDrawn, BlankSeed}
 use Rattle.pools.proofs.OneReseed.{first-try, first-shuffle}
 
 -- ---- numbers
 
-refuse-small : (t : Bool) (n rest : ℕ) → n ≤ 32 → rest ≤ 32 → refuse t n rest ≤ 32
-refuse-small true n rest h k = h
-refuse-small false n rest h k = k
+-- what holds of each number of a chain holds of the chain's own
+module _ (P : ℕ → Type 0) where
+  refuse-holds : (t : Bool) (n rest : ℕ) → P n → P rest → P (refuse t n rest)
+  refuse-holds true n rest h k = h
+  refuse-holds false n rest h k = k
 
-then-small : (top first second : ℕ) → first ≤ top → second ≤ top → andThen first second ≤ top
-unfolding andThen
-then-small top first second h k = go (eqb first 0)
-  where
-    go : (t : Bool) → cond t second first ≤ top
-    go true = k
-    go false = h
+  then-holds : (first second : ℕ) → P first → P second → P (andThen first second)
+  unfolding andThen
+  then-holds first second h k = split P (eqb first 0) (λ t. k) (λ t. h)
 
-event-small : (m : Bool) (size source pool n : ℕ) → eventNumber m size source pool n ≤ 32
-unfolding eventNumber eventInput eventState
-event-small m size source pool n =
-    then-small 32 _ _
-    (refuse-small (ltb maxSource source) 11 _ (lit≤ tt) (refuse-small (ltb (poolCount - 1) pool) 12 _ (lit≤ tt) (refuse-small (eqb n 0 || ltb maxData n) 13 0 (lit≤ tt) zero-le)))
-    (refuse-small m 21 _ (lit≤ tt) (refuse-small (full size (gain n)) 22 0 (lit≤ tt) zero-le))
+  event-holds : (m : Bool) (size source pool n : ℕ) → P 0 → P 11 → P 12 → P 13 → P 21 → P 22 → P (eventNumber m size source pool n)
+  unfolding eventNumber eventInput eventState
+  event-holds m size source pool n p0 p11 p12 p13 p21 p22 =
+      let data-holds = refuse-holds (eqb n 0 || ltb maxData n) 13 0 p13 p0 in
+      let input-holds = refuse-holds (ltb maxSource source) 11 _ p11 (refuse-holds (ltb (poolCount - 1) pool) 12 _ p12 data-holds) in
+      then-holds _ _ input-holds (refuse-holds m 21 _ p21 (refuse-holds (full size (gain n)) 22 0 p22 p0))
 
-input-small : (n : ℕ) → requestInput n ≤ 32
-unfolding requestInput
-input-small n = refuse-small (ltb maxRequest n) 14 0 (lit≤ tt) zero-le
+  request-holds : (n : ℕ) → P 0 → P 14 → P (requestInput n)
+  unfolding requestInput
+  request-holds n p0 p14 = refuse-holds (ltb maxRequest n) 14 0 p14 p0
 
-output-small : (m : Bool) (c : ℕ) (d : Bool) (b : ℕ) → outputState m c d b ≤ 32
-unfolding outputState
-output-small m c d b =
-    refuse-small m 21 _ (lit≤ tt) (refuse-small (unseeded c d) 23 _ (lit≤ tt) (refuse-small (spent c d b) 24 0 (lit≤ tt) zero-le))
+  output-holds : (m : Bool) (c : ℕ) (d : Bool) (b : ℕ) → P 0 → P 21 → P 23 → P 24 → P (outputState m c d b)
+  unfolding outputState
+  output-holds m c d b p0 p21 p23 p24 =
+      refuse-holds m 21 _ p21 (refuse-holds (unseeded c d) 23 _ p23 (refuse-holds (spent c d b) 24 0 p24 p0))
 
-seed-small : (seed : List ℕ) → seedInput seed ≤ 32
-unfolding seedInput
-seed-small seed = refuse-small (not (eqb (length seed) seedSize)) 15 0 (lit≤ tt) zero-le
+  seed-holds : (seed : List ℕ) → P 0 → P 15 → P (seedInput seed)
+  unfolding seedInput
+  seed-holds seed p0 p15 = refuse-holds (not (eqb (length seed) seedSize)) 15 0 p15 p0
 
-update-small : (m : Bool) (c : ℕ) (d : Bool) → updateState m c d ≤ 32
-unfolding updateState
-update-small m c d = refuse-small m 21 _ (lit≤ tt) (refuse-small (spent c d 7) 24 0 (lit≤ tt) zero-le)
+  update-holds : (m : Bool) (c : ℕ) (d : Bool) (seed : List ℕ) → P 0 → P 15 → P 36 → P 21 → P 24 → P (updateNumber m c d seed)
+  unfolding updateNumber updateInput updateState
+  update-holds m c d seed p0 p15 p36 p21 p24 =
+      then-holds _ _ (then-holds _ _ (seed-holds seed p0 p15) (refuse-holds (blank seed) 36 0 p36 p0))
+      (refuse-holds m 21 _ p21 (refuse-holds (spent c d 7) 24 0 p24 p0))
 
-draw-small : (n d : ℕ) → drawInput n d ≤ 32
-unfolding drawInput
-draw-small n d =
-    refuse-small (eqb n 0 || ltb maxBelow n) 31 _ (lit≤ tt) (refuse-small (eqb d 0 || ltb maxTries d) 32 0 (lit≤ tt) zero-le)
+  draw-holds : (n d : ℕ) → P 0 → P 31 → P 32 → P (drawInput n d)
+  unfolding drawInput
+  draw-holds n d p0 p31 p32 = refuse-holds (eqb n 0 || ltb maxBelow n) 31 _ p31 (refuse-holds (eqb d 0 || ltb maxTries d) 32 0 p32 p0)
 
-list-small : (list : List ℕ) → listInput list ≤ 32
-unfolding listInput
-list-small list = refuse-small (ltb maxList (length list) || hasRepeat list) 31 0 (lit≤ tt) zero-le
+  list-holds : (list : List ℕ) → P 0 → P 31 → P (listInput list)
+  unfolding listInput
+  list-holds list p0 p31 = refuse-holds (ltb maxList (length list) || hasRepeat list) 31 0 p31 p0
 
-shuffle-small : (m : Bool) (c : ℕ) (d : Bool) (n : ℕ) → shuffleState m c d n ≤ 32
-unfolding shuffleState
-shuffle-small m c d n = split (λ (k : ℕ). k ≤ 32) (ltb n 2) (λ t. refuse-small m 21 0 (lit≤ tt) zero-le) (λ t. output-small m c d _)
+  shuffle-holds : (m : Bool) (c : ℕ) (d : Bool) (n : ℕ) → P 0 → P 21 → P 23 → P 24 → P (shuffleState m c d n)
+  unfolding shuffleState
+  shuffle-holds m c d n p0 p21 p23 p24 =
+      split P (ltb n 2) (λ t. refuse-holds m 21 0 p21 p0) (λ t. output-holds m c d _ p0 p21 p23 p24)
 
--- no call is refused by 33
-pub number-small : (s : Fortuna) (c : Call) → callNumber s c ≤ 32
-unfolding callNumber requestNumber updateNumber writeNumber drawNumber shuffleNumber
-number-small s (event source pool content) = event-small _ _ source pool (length content)
-number-small s (request clock buffer) = then-small 32 _ _ (input-small (length buffer)) (output-small _ _ _ _)
-number-small s (update clock seed) = then-small 32 _ _ (seed-small seed) (update-small _ _ _)
-number-small s (write clock seed) = then-small 32 _ _ (seed-small seed) (output-small _ _ _ _)
-number-small s (draw clock n d) = then-small 32 _ _ (draw-small n d) (output-small _ _ _ _)
-number-small s (shuffle clock list) = then-small 32 _ _ (list-small list) (shuffle-small _ _ _ _)
+-- a number of the call's list, of two digits
+abbrev Known : Call → ℕ → Type 0
+Known c n = (countOf n (callNumbers c) ≡ 1) × (n ≤ 99)
+
+number-known : (s : Fortuna) (c : Call) → Known c (callNumber s c)
+unfolding callNumber requestNumber writeNumber drawNumber shuffleNumber countOf callNumbers
+number-known s (event source pool content) =
+    event-holds (Known (event source pool content)) _ _ source pool (length content) (refl, lit≤ tt) (refl, lit≤ tt) (refl, lit≤ tt) (refl, lit≤ tt) (refl, lit≤ tt) (refl, lit≤ tt)
+number-known s (request clock buffer) =
+    let P = Known (request clock buffer) in
+    then-holds P _ _ (request-holds P (length buffer) (refl, lit≤ tt) (refl, lit≤ tt)) (output-holds P _ _ _ _ (refl, lit≤ tt) (refl, lit≤ tt) (refl, lit≤ tt) (refl, lit≤ tt))
+number-known s (update clock seed) = update-holds (Known (update clock seed)) _ _ _ seed (refl, lit≤ tt) (refl, lit≤ tt) (refl, lit≤ tt) (refl, lit≤ tt) (refl, lit≤ tt)
+number-known s (write clock seed) =
+    let P = Known (write clock seed) in
+    then-holds P _ _ (seed-holds P seed (refl, lit≤ tt) (refl, lit≤ tt)) (output-holds P _ _ _ _ (refl, lit≤ tt) (refl, lit≤ tt) (refl, lit≤ tt) (refl, lit≤ tt))
+number-known s (draw clock n d) =
+    let P = Known (draw clock n d) in
+    then-holds P _ _ (draw-holds P n d (refl, lit≤ tt) (refl, lit≤ tt) (refl, lit≤ tt)) (output-holds P _ _ _ _ (refl, lit≤ tt) (refl, lit≤ tt) (refl, lit≤ tt) (refl, lit≤ tt))
+number-known s (shuffle clock list) =
+    let P = Known (shuffle clock list) in
+    then-holds P _ _ (list-holds P list (refl, lit≤ tt) (refl, lit≤ tt)) (shuffle-holds P _ _ _ _ (refl, lit≤ tt) (refl, lit≤ tt) (refl, lit≤ tt) (refl, lit≤ tt))
+
+pub call-numbers : CallNumbersLaw
+call-numbers s c = number-known s c .0
+
+not-listed : (c : Call) → countOf 33 (callNumbers c) ≡ 1 → ⊥
+unfolding countOf callNumbers
+not-listed (event source pool content) h = omega (arith, h)
+not-listed (request clock buffer) h = omega (arith, h)
+not-listed (update clock seed) h = omega (arith, h)
+not-listed (write clock seed) h = omega (arith, h)
+not-listed (draw clock n d) h = omega (arith, h)
+not-listed (shuffle clock list) h = omega (arith, h)
+
+pub none-drawn : NoneDrawnLaw
+none-drawn s c e = not-listed c (rw e at (call-numbers s c))
 
 pub step-number-small : (s : Fortuna) (c : Call) → step s c .number ≤ 99
 unfolding step outcome
 step-number-small s c =
-    then-small 99 _ _ (le-trans (number-small s c) (lit≤ tt)) (split (λ (k : ℕ). k ≤ 99) (callFound s c) (λ t. zero-le) (λ t. lit≤ tt))
+    then-holds (λ (k : ℕ). k ≤ 99) _ _ (number-known s c .1) (split (λ (k : ℕ). k ≤ 99) (callFound s c) (λ t. zero-le) (λ t. lit≤ tt))
 
 -- an answer's number
 pub answer-small : (a : Answer) → number a < 100
@@ -107,6 +135,7 @@ answer-small CounterSpent = lit≤ tt
 answer-small SlotRange = lit≤ tt
 answer-small TryRange = lit≤ tt
 answer-small NoneDrawn = lit≤ tt
+answer-small BlankSeed = lit≤ tt
 
 -- ---- pools emptied
 

@@ -1,17 +1,20 @@
 -- What the methods promise: 01's numbers of the answers, and a call's outcome as the caller sees it.
 -- Assumes nothing.
 use mathlib.Core.Path.{_≡_}
-use mathlib.Core.List.{List}
+use mathlib.Core.Logic.{_≢_}
+use mathlib.Core.List.{List, [], _∷_}
 use Prim.Native.Nat.{ℕ, _%_}
+use Rattle.laws.specs.Lists.{countOf}
 use Rattle.pools.specs.Events.{poolCount}
 use Rattle.pools.specs.State.{poolAt}
 use Rattle.pools.specs.Effects.{withPool}
 use Rattle.pools.specs.Calls as Calls
+use Rattle.pools.specs.Calls.{Call, event, request, update, write, draw, shuffle, callNumber}
 use Rattle.pools.specs.declared.Fortuna.{Fortuna}
 use Rattle.pools.specs.declared.Gain.{Gain}
 use Rattle.pools.specs.declared.Outcome.{Outcome}
 use Rattle.pools.specs.declared.answer.Answer.{Answer}
-use Rattle.pools.specs.declared.answer.Answer.the-variants.{Done, SourceOutOfRange, PoolOutOfRange, DataLength, RequestTooLong, SeedSize, Malformed, PoolFull, Unseeded, CounterSpent, SlotRange, TryRange, NoneDrawn}
+use Rattle.pools.specs.declared.answer.Answer.the-variants.{Done, SourceOutOfRange, PoolOutOfRange, DataLength, RequestTooLong, SeedSize, Malformed, PoolFull, Unseeded, CounterSpent, SlotRange, TryRange, NoneDrawn, BlankSeed}
 
 -- 01's number of an answer, 0 where the call was done
 unfoldable pub number : Answer → ℕ
@@ -28,10 +31,28 @@ number CounterSpent = 24
 number SlotRange = 31
 number TryRange = 32
 number NoneDrawn = 33
+number BlankSeed = 36
 
 -- different answers have different numbers
 abbrev pub NumberInjective : Type 0
 NumberInjective = (a b : Answer) → number a ≡ number b → a ≡ b
+
+-- the numbers that a call's check gives: 0, and those that refuse it, in the order of the check
+unfoldable pub callNumbers : Call → List ℕ
+callNumbers (event source pool content) = 0 ∷ 11 ∷ 12 ∷ 13 ∷ 21 ∷ 22 ∷ []
+callNumbers (request clock buffer) = 0 ∷ 14 ∷ 21 ∷ 23 ∷ 24 ∷ []
+callNumbers (update clock seed) = 0 ∷ 15 ∷ 36 ∷ 21 ∷ 24 ∷ []
+callNumbers (write clock seed) = 0 ∷ 15 ∷ 21 ∷ 23 ∷ 24 ∷ []
+callNumbers (draw clock n d) = 0 ∷ 31 ∷ 32 ∷ 21 ∷ 23 ∷ 24 ∷ []
+callNumbers (shuffle clock list) = 0 ∷ 31 ∷ 21 ∷ 23 ∷ 24 ∷ []
+
+-- no call is refused by another number
+abbrev pub CallNumbersLaw : Type 0
+CallNumbersLaw = (s : Fortuna) (c : Call) → countOf (callNumber s c) (callNumbers c) ≡ 1
+
+-- no call is refused by 33: it always says that tries were made
+abbrev pub NoneDrawnLaw : Type 0
+NoneDrawnLaw = (s : Fortuna) (c : Call) → callNumber s c ≢ 33
 
 -- what a method returns is the outcome: its number, the pools emptied, and the next state
 abbrev pub Gives : Calls.Outcome Fortuna → Outcome → Type 0

@@ -5,7 +5,8 @@ use mathlib.Core.Bool.{Bool, cond, not, _&&_, _||_}
 use mathlib.Core.List.{List}
 use Prim.Native.Nat.{ℕ, _+_, _-_, _*_, _^_}
 use lib.Dec.{eqb, ltb}
-use lib.ListN.{length}
+use lib.ListN.{length, getD, replicate}
+use Rattle.laws.specs.Lists.{sameList}
 use Rattle.laws.specs.Refusals.{refuse}
 use Rattle.generator.specs.Counter.{maxCounter}
 use Rattle.generator.specs.Steps.{blockCount}
@@ -72,11 +73,18 @@ seedInput seed = refuse (not (eqb (length seed) seedSize)) 15 0
 unfoldable pub writeNumber : Bool → ℕ → Bool → List ℕ → ℕ
 writeNumber malformed c due seed = andThen (seedInput seed) (outputState malformed c due (blockCount seedSize + 2))
 
+-- 36: the bytes are all equal, as on a page of flash memory that was never written: 64 times the first of them
+unfoldable pub blank : List ℕ → Bool
+blank seed = sameList seed (replicate seedSize (getD seed 0 0))
+
+unfoldable pub updateInput : List ℕ → ℕ
+updateInput seed = andThen (seedInput seed) (refuse (blank seed) 36 0)
+
 unfoldable pub updateState : Bool → ℕ → Bool → ℕ
 updateState malformed c due = refuse malformed 21 (refuse (spent c due 7) 24 0)
 
 unfoldable pub updateNumber : Bool → ℕ → Bool → List ℕ → ℕ
-updateNumber malformed c due seed = andThen (seedInput seed) (updateState malformed c due)
+updateNumber malformed c due seed = andThen (updateInput seed) (updateState malformed c due)
 
 -- ---- draws below n with d tries, and shuffles of a list
 

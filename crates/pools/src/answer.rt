@@ -17,6 +17,7 @@ pub enum Answer {
     SlotRange,
     TryRange,
     NoneDrawn,
+    BlankSeed,
 }
 
 impl Answer {
@@ -38,6 +39,7 @@ impl Answer {
             Answer::SlotRange => 31,
             Answer::TryRange => 32,
             Answer::NoneDrawn => 33,
+            Answer::BlankSeed => 36,
         }
     }
 

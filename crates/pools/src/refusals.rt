@@ -9,9 +9,10 @@ use slots::has_repeat;
 ghost use mathlib.Core.Path.{_≡_};
 ghost use mathlib.Core.Bool.{cond};
 ghost use Prim.Native.Nat.{_+_, _≤_};
+ghost use lib.ListN.{length};
 ghost use Rattle.generator.specs.Steps.{decode};
 ghost use Rattle.pools.specs.Pool.{full};
-ghost use Rattle.pools.specs.Refusals.{unseeded, spent, eventNumber, outputState, requestNumber, writeNumber, updateNumber, drawNumber, shuffleNumber};
+ghost use Rattle.pools.specs.Refusals.{unseeded, spent, eventNumber, outputState, requestNumber, writeNumber, blank, updateNumber, drawNumber, shuffleNumber};
 ghost use Rattle.pools.specs.Promises.{number};
 
 const MAX_SOURCE: u32 = 65535;
@@ -127,12 +128,30 @@ pub(crate) fn write_answer(malformed: bool, generator: Generator, due: bool, see
     output_answer(malformed, generator, due, block_count(SEED_SIZE) as u32 + 2)
 }
 
+// Whether the 64 bytes are all equal. All of them are looked at, whatever the first ones are: a seed is secret.
+fn is_blank(seed: &[u8]) -> bool
+    requires { ⌜ length (now seed) ≡ 64 ⌝ }
+    ensures { λ r. ⌜ r ≡ blank (now (seed .entry)) ⌝ }
+{
+    let first = seed[0];
+    let mut d = 0u8;
+    let mut i: usize = 0;
+    while i < SEED_SIZE {
+        d = d | (seed[i] ^ first);
+        i += 1;
+    }
+    d == 0
+}
+
 // The answer to a seed update on the lent bytes.
 pub(crate) fn update_answer(malformed: bool, generator: Generator, due: bool, seed: &[u8]) -> Answer
     ensures { λ r. ⌜ number r ≡ updateNumber malformed (decode generator .count) due (now (seed .entry)) ⌝ }
 {
     if seed.len() != SEED_SIZE {
         return Answer::SeedSize;
+    }
+    if is_blank(seed) {
+        return Answer::BlankSeed;
     }
     if malformed {
         return Answer::Malformed;

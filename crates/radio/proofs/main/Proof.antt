@@ -13,6 +13,9 @@ Inv-loop list state₀ bytes₀ i₀ state bytes i = length bytes ≡ 24
 abbrev μ-loop : tie.MeasureT-loop
 μ-loop list state₀ bytes₀ i₀ state bytes i = 12 - i
 
+array-write-seed : tie.Need-array-write-seed Inv-loop μ-loop
+array-write-seed c = search needs
+
 new-requires : tie.Need-new-requires Inv-loop μ-loop
 new-requires c κs = search needs
 
@@ -79,6 +82,7 @@ main-spec =
     (tie.spec
     Inv-loop
     μ-loop
+    array-write-seed
     new-requires
     slice-aggregate-update-seed
     update-seed-requires
