@@ -2,12 +2,12 @@
 -- Assumes nothing.
 use mathlib.Core.Path.{refl}
 use Rattle.hash.specs.Constants.{H⁰}
-use Rattle.reference.specs.Boundaries.{answers, refusals, withPools, withFirstPool, withKey, withTimer, withRequests, keyedUnseeded, strings4, given, late, firstSeed, countAfter, Boundaries}
+use Rattle.reference.specs.Boundaries.{answers, refusals, withPools, withFirstPool, withKey, withTimer, withRequests, keyedUnseeded, strings4, given, late, firstSeed, page, countAfter, Boundaries}
 use Rattle.reference.proofs.Computing.{answering, adding, emptying, seeding, drawing, starting}
 
 -- what these rows alone compute with
 own : Unit {0}
-unfolding H⁰ answers refusals withPools withFirstPool withKey withTimer withRequests keyedUnseeded strings4 given late firstSeed countAfter
+unfolding H⁰ answers refusals withPools withFirstPool withKey withTimer withRequests keyedUnseeded strings4 given late firstSeed page countAfter
 own = tt
 
 pub boundaries : Boundaries
@@ -23,6 +23,10 @@ boundaries =
       spentOrder = refl;
       seeds = refl;
       seedRoom = refl;
+      blank = (refl, refl, refl);
+      blankPlaces = refl;
+      blankOrder = refl;
+      blankWrites = refl;
       draws = refl;
       shuffles = refl;
       listSizes = refl;
@@ -37,7 +41,7 @@ boundaries =
       outcomes = (refl, refl, refl);
       updateBytes = (refl, refl);
       writeBytes = (refl, refl);
-      refused = (refl, refl, refl, refl, refl, refl, refl, refl);
+      refused = (refl, refl, refl, refl, refl, refl, refl, refl, refl);
       poolClauses = refl;
       tails = refl;
       chains = refl;

@@ -15,7 +15,7 @@ use Rattle.pools.specs.Schedule.{used, usedBelow, usedPools, elapsed, isDue, ma
 use Rattle.pools.specs.Pool.{tooLong, dirtyTail, strayChain, malformedPool, full}
 use Rattle.pools.specs.State.{fresh, poolAt, counterOf, anyPool, unseededReseeded, strayTimer, unseededCounted, malformedFields, malformed, due}
 use Rattle.pools.specs.Refusals.{andThen, seedSize, unseeded, spent, eventInput, eventState, eventNumber, requestInput, outputState, requestNumber}
-use Rattle.pools.specs.Refusals.{seedInput, updateState, updateNumber, writeNumber}
+use Rattle.pools.specs.Refusals.{seedInput, blank, updateInput, updateState, updateNumber, writeNumber}
 use Rattle.pools.specs.Refusals.{maxBelow, maxTries, maxList, drawInput, drawNumber, listInput, shuffleState, shuffleNumber}
 use Rattle.pools.specs.Effects.{unchanged, withPool, addEvent, withGenerator, withRequest, nextReseed, poolReseed, reseedIfDue, emptiedBy, randomData, reseedWithSeed, updateSeed, writeSeed}
 use Rattle.pools.specs.Draws.{trySize, tries, leaving, after, shuffleFrom, shuffled, tryAt}
@@ -43,14 +43,18 @@ unfoldable pub forming : Unit {0}
 unfolding poolCount tooLong dirtyTail strayChain malformedPool fresh poolAt counterOf anyPool clausing malformed
 forming = tt
 
--- the numbers of events, of requests and seed calls, of draws and shuffles
+-- the numbers of events, of requests, of seed calls, of draws and shuffles
 unfoldable pub refusingEvents : Unit {0}
 unfolding maxSource maxData headerLength gain full eventInput eventState eventNumber
 refusingEvents = tt
 
 unfoldable pub refusingRequests : Unit {0}
-unfolding elapsed isDue due unseeded spent requestInput outputState requestNumber seedSize seedInput updateState updateNumber writeNumber
+unfolding elapsed isDue due unseeded spent requestInput outputState requestNumber
 refusingRequests = tt
+
+unfoldable pub refusingSeeds : Unit {0}
+unfolding seedSize seedInput blank updateInput updateState updateNumber writeNumber
+refusingSeeds = tt
 
 unfoldable pub refusingDraws : Unit {0}
 unfolding maxBelow maxTries maxList isIn hasRepeat drawInput drawNumber listInput shuffleState shuffleNumber
@@ -62,7 +66,7 @@ unfolding andThen inputBuffer callNumber callEffect callFound callValue unchange
 stepping = tt
 
 unfoldable pub answering : Unit {0}
-unfolding hashing counting forming refusingEvents refusingRequests refusingDraws stepping
+unfolding hashing counting forming refusingEvents refusingRequests refusingSeeds refusingDraws stepping
 answering = tt
 
 -- what an accepted event puts into its pool

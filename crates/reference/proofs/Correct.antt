@@ -9,6 +9,7 @@ use Rattle.reference.proofs.Timer.{elapsed-law, timer-step}
 use Rattle.reference.proofs.Counters.{no-repeat}
 use Rattle.reference.proofs.Counting.{counted}
 use Rattle.reference.proofs.KeyRequests.{on-one-key}
+use Rattle.reference.proofs.Blank.{blank-law}
 
 pub run-correct : (calls : List Call) → RunCorrect calls
 run-correct calls =
@@ -21,4 +22,5 @@ run-correct calls =
       counters = no-repeat calls;
       counted = counted calls;
       key-requests = on-one-key calls;
+      blank = blank-law;
     }

@@ -2,14 +2,14 @@
 -- Assumes nothing.
 use mathlib.Core.Path.{_≡_, refl, sym, ap, _∙_}
 use mathlib.Core.Bool.{Bool, true, false, cond, not, _&&_, _||_, true≢false}
-use mathlib.Core.Logic.{_⊎_, inl, inr}
+use mathlib.Core.Logic.{_⊎_, inl, inr, _≢_}
 use mathlib.Core.List.{List}
 use Prim.Native.Nat.{ℕ, zero, suc, _≤_, _<_}
 use native.Mathlib.Omega.{arith}
 use lib.Dec.{eqb, leb, ltb, eqb·suc-zero}
 use lib.ListN.{length}
 use borrow.Author.Tests.{ltb-true, ltb-false, lt-ltb, leb-true, le-leb, eqb-true}
-use Rattle.laws.proofs.Cases.{by-test}
+use Rattle.laws.proofs.Cases.{by-test, both}
 use Rattle.pools.specs.declared.Fortuna.{Fortuna}
 use Rattle.pools.specs.Schedule.{usedPools, elapsed, isDue}
 use Rattle.pools.specs.State.{poolAt, due}
@@ -17,7 +17,7 @@ use Rattle.pools.specs.Refusals.{andThen}
 use Rattle.pools.specs.Effects.{Effect, unchanged, withPool, withGenerator, withRequest, addEvent, nextReseed, poolReseed, reseedIfDue, emptiedBy, randomData, reseedWithSeed, updateSeed, writeSeed}
 use Rattle.pools.specs.Draws.{trySize, after, leaving, tries, shuffled, tryAt}
 use Rattle.pools.specs.Calls.{Call, event, request, update, write, draw, shuffle, readingOf, inputBuffer, callNumber, callEffect, callFound, effectOf, outcome, step, stateAfter}
-use Rattle.pools.proofs.Bounds.{number-small}
+use Rattle.pools.proofs.Bounds.{none-drawn}
 use Rattle.pools.proofs.EachTry.{Kept, Begun, begun-tries, begun-shuffled, idle-shuffle}
 use Rattle.pools.proofs.OneReseed.{quiet-after, first-try, first-shuffled}
 use Rattle.reference.specs.Agreement.{concrete}
@@ -42,10 +42,6 @@ elapsed-only reading mark e (h, k) = omega arith
 
 Waited : ℕ → ℕ → ℕ → Type 0
 Waited n mark reading = (n ≡ 0) ⊎ ((e : ℕ) × Later mark e reading × (100 < e))
-
-both : (x y : Bool) → (x && y) ≡ true → (x ≡ true) × (y ≡ true)
-both true y h = (refl, h)
-both false y h = absurd (true≢false (sym h))
 
 waited : (n mark reading : ℕ) → (not (ltb 0 n) || ltb 100 (elapsed reading mark)) ≡ true → Waited n mark reading
 unfolding Waited
@@ -188,11 +184,11 @@ unfolding andThen
 taken n true e = inl (rw e)
 taken n false e = inr (rw e)
 
-not-refused : (n : ℕ) (f : Bool) → n ≤ 32 → (andThen n (cond f 0 33) ≡ 0) ⊎ (andThen n (cond f 0 33) ≡ 33) → n ≡ 0
+not-refused : (n : ℕ) (f : Bool) → n ≢ 33 → (andThen n (cond f 0 33) ≡ 0) ⊎ (andThen n (cond f 0 33) ≡ 33) → n ≡ 0
 unfolding andThen
 not-refused zero f h e = refl
 not-refused (suc n) f h (inl e) = rw (eqb·suc-zero n) at e
-not-refused (suc n) f h (inr e) = let k : suc n ≡ 33 = rw (eqb·suc-zero n) at e in absurd (omega arith)
+not-refused (suc n) f h (inr e) = let k : suc n ≡ 33 = rw (eqb·suc-zero n) at e in absurd (h k)
 
 step-taken : (s : Fortuna) (c : Call) → callNumber s c ≡ 0 → (step s c .number ≡ 0) ⊎ (step s c .number ≡ 33)
 unfolding step outcome
@@ -200,7 +196,7 @@ step-taken s c e = taken (callNumber s c) (callFound s c) e
 
 step-not-refused : (s : Fortuna) (c : Call) → (step s c .number ≡ 0) ⊎ (step s c .number ≡ 33) → callNumber s c ≡ 0
 unfolding step outcome
-step-not-refused s c n = not-refused (callNumber s c) (callFound s c) (number-small s c) n
+step-not-refused s c n = not-refused (callNumber s c) (callFound s c) (none-drawn s c) n
 
 pub step-emptied : (s : Fortuna) (c : Call) → ltb 0 (step s c .effect .emptied) ≡ (eqb (callNumber s c) 0 && dueFor s c)
 unfolding step outcome

@@ -9,7 +9,7 @@ use native.Mathlib.Omega.{arith}
 use lib.Dec.{eqb}
 use borrow.Author.Tests.{eqb-true, eqb-false, eq-eqb}
 use Rattle.laws.specs.Lists.{joined}
-use Rattle.laws.proofs.Cases.{by-test}
+use Rattle.laws.proofs.Cases.{by-test, both}
 use Rattle.pools.specs.Events.{poolCount}
 use Rattle.pools.specs.Schedule.{used, usedBelow, usedPools}
 use Rattle.pools.specs.Calls.{Call}
@@ -136,10 +136,6 @@ uses-mem es n i u h v m (suc r) p k = go (uses-mem es n i u h v m r p)
 
 -- ---- when a call's bytes enter
 
-both-true : (x y : Bool) → (x && y) ≡ true → (x ≡ true) × (y ≡ true)
-both-true true y h = (refl, h)
-both-true false y h = absurd (true≢false (sym h))
-
 -- an accepted event of a place that is booked for reseed n, one of the first r, through pool i, and whose piece is p
 pub record Booked (es : List Accepted) (r place n i : ℕ) (p : Piece) : Type 0 where
   pub event : Accepted
@@ -159,14 +155,14 @@ module _ (calls : List Call) (es : List Accepted) (r : ℕ) (uses : traced calls
       let is : a .poolUse ≡ record { reseedNumber = y .n; pool = y .i; pieces = map pieceOf (select (consumedAt (y .n) (y .i)) es) } =
       List·Memᴰ·eq-of-singleton (y .is) in
       let c = mem-select (consumedAt (y .n) (y .i)) es (a .piece) (subst (List·Memᴰ (a .piece)) (ap (λ (u : PoolUse). u .pieces) is) (a .inside)) in
-      let both = both-true _ _ (c .passes) in
+      let booked = both (eqb (c .event .pool) (y .i)) (eqb (scheduled (c .event)) (y .n)) (c .passes) in
       let nn : n ≡ y .n = sym (a .reseedNumber) ∙ ap (λ (u : PoolUse). u .reseedNumber) is in
       record {
         event = c .event;
         listed = c .listed;
         own = omega (arith, ap (λ (p : Piece). p .place) (c .is), a .own);
-        pool = sym (a .pool) ∙ ap (λ (u : PoolUse). u .pool) is ∙ sym (eqb-true (c .event .pool) (y .i) (both .0));
-        reseedNumber = nn ∙ sym (eqb-true (scheduled (c .event)) (y .n) (both .1));
+        pool = sym (a .pool) ∙ ap (λ (u : PoolUse). u .pool) is ∙ sym (eqb-true (c .event .pool) (y .i) (booked .0));
+        reseedNumber = nn ∙ sym (eqb-true (scheduled (c .event)) (y .n) (booked .1));
         reached = omega (arith, nn, y .reached);
         piece = c .is;
       }

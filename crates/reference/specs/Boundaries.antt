@@ -118,21 +118,53 @@ RequestRow =
     ++ map (λ (c : ℕ). step (reseededState c 1 0) (request 200 []) .number) ((2 ^ 128 - 4) ∷ (2 ^ 128 - 3) ∷ [])
     ≡ 21 ∷ 23 ∷ 23 ∷ 0 ∷ 0 ∷ 24 ∷ []
 
+-- 64 bytes that are not all equal, and a page that reads b everywhere
+unfoldable pub firstSeed : List ℕ
+firstSeed = tabulate (λ (i : ℕ). i) 64
+
+unfoldable pub page : ℕ → List ℕ
+page b = replicate 64 b
+
 -- 15 before 21; a write is 23 where unseeded and takes 6, an update seeds and takes 7, either one more with a due reseed
 abbrev pub SeedRow : Type 0
 SeedRow =
     answers keyedUnseeded
-    (update 0 (replicate 63 1) ∷ update 0 (replicate 65 1) ∷ update 0 (replicate 64 1) ∷ write 0 [] ∷ write 0 (replicate 64 1) ∷ [])
-    ++ answers fresh (update 0 (replicate 64 1) ∷ write 0 (replicate 64 1) ∷ [])
-    ++ answers (withFirstPool fresh (wholeBlocks 64)) (write 0 (replicate 64 1) ∷ [])
+    (update 0 (take 63 firstSeed) ∷ update 0 (0 ∷ firstSeed) ∷ update 0 firstSeed ∷ write 0 [] ∷ write 0 firstSeed ∷ [])
+    ++ answers fresh (update 0 firstSeed ∷ write 0 firstSeed ∷ [])
+    ++ answers (withFirstPool fresh (wholeBlocks 64)) (write 0 firstSeed ∷ [])
     ≡ 15 ∷ 15 ∷ 21 ∷ 15 ∷ 21 ∷ 0 ∷ 23 ∷ 0 ∷ []
+
+-- 36: an update of 64 equal bytes, FF and 00 among them; 63 and 65 of them are 15
+abbrev pub BlankRow : Type 0
+BlankRow =
+    (answers fresh (update 0 (page 0xff) ∷ update 0 (page 0) ∷ update 0 (page 0x5a) ∷ []) ≡ 36 ∷ 36 ∷ 36 ∷ [])
+    × (tabulate (λ (b : ℕ). step fresh (update 0 (page b)) .number) 256 ≡ replicate 256 36)
+    × (answers fresh (update 0 (replicate 63 0xff) ∷ update 0 (replicate 65 0xff) ∷ []) ≡ 15 ∷ 15 ∷ [])
+
+-- another byte at any one place, the first and the last among them, is accepted
+abbrev pub BlankPlacesRow : Type 0
+BlankPlacesRow = tabulate (λ (i : ℕ). step fresh (update 0 (set (page 0xff) i 0)) .number) 64 ≡ replicate 64 0
+
+-- 15 before 36, 36 before 21 and before 24, each beside an update of other bytes
+abbrev pub BlankOrderRow : Type 0
+BlankOrderRow =
+    answers keyedUnseeded (update 0 (replicate 63 0) ∷ update 0 (page 0) ∷ update 0 firstSeed ∷ [])
+    ++ answers (seededState (2 ^ 128 - 1)) (update 0 (page 0xff) ∷ update 0 firstSeed ∷ [])
+    ++ answers (withTimer 1 (2 ^ 128 - 1) 5 0 false) (update 0 (page 0xff) ∷ update 0 firstSeed ∷ [])
+    ≡ 15 ∷ 36 ∷ 21 ∷ 36 ∷ 24 ∷ 36 ∷ 21 ∷ []
+
+-- a write over such a page is one over any other: 23 where unseeded, accepted where seeded or where a reseed is due
+abbrev pub BlankWriteRow : Type 0
+BlankWriteRow =
+    map (λ (s : Fortuna). step s (write 0 (page 0xff)) .number) (fresh ∷ seededState 1 ∷ withFirstPool fresh (wholeBlocks 64) ∷ keyedUnseeded ∷ [])
+    ≡ 23 ∷ 0 ∷ 0 ∷ 21 ∷ []
 
 abbrev pub SeedRoomRow : Type 0
 SeedRoomRow =
-    map (λ (c : ℕ). step (seededState c) (write 0 (replicate 64 1)) .number) ((2 ^ 128 - 7) ∷ (2 ^ 128 - 6) ∷ [])
-    ++ map (λ (c : ℕ). step (reseededState c 1 0) (write 200 (replicate 64 1)) .number) ((2 ^ 128 - 8) ∷ (2 ^ 128 - 7) ∷ [])
-    ++ map (λ (c : ℕ). step (seededState c) (update 0 (replicate 64 1)) .number) ((2 ^ 128 - 8) ∷ (2 ^ 128 - 7) ∷ [])
-    ++ map (λ (c : ℕ). step (reseededState c 1 0) (update 200 (replicate 64 1)) .number) ((2 ^ 128 - 9) ∷ (2 ^ 128 - 8) ∷ [])
+    map (λ (c : ℕ). step (seededState c) (write 0 firstSeed) .number) ((2 ^ 128 - 7) ∷ (2 ^ 128 - 6) ∷ [])
+    ++ map (λ (c : ℕ). step (reseededState c 1 0) (write 200 firstSeed) .number) ((2 ^ 128 - 8) ∷ (2 ^ 128 - 7) ∷ [])
+    ++ map (λ (c : ℕ). step (seededState c) (update 0 firstSeed) .number) ((2 ^ 128 - 8) ∷ (2 ^ 128 - 7) ∷ [])
+    ++ map (λ (c : ℕ). step (reseededState c 1 0) (update 200 firstSeed) .number) ((2 ^ 128 - 9) ∷ (2 ^ 128 - 8) ∷ [])
     ≡ 0 ∷ 24 ∷ 0 ∷ 24 ∷ 0 ∷ 24 ∷ 0 ∷ 24 ∷ []
 
 -- the numbers that refuse calls before they do anything
@@ -169,6 +201,7 @@ RefusedRow =
     × (step fresh (request 0 (1 ∷ 2 ∷ [])) .effect .buffer ≡ 1 ∷ 2 ∷ [])
     × (step keyedUnseeded (request 0 (1 ∷ 2 ∷ [])) .effect .next ≡ keyedUnseeded)
     × (step fresh (update 0 (3 ∷ [])) .effect .buffer ≡ 3 ∷ [])
+    × (step fresh (update 0 (page 0xff)) .effect .buffer ≡ page 0xff)
     × (step fresh (write 0 (4 ∷ [])) .effect .buffer ≡ 4 ∷ [])
     × (step fresh (write 0 (4 ∷ [])) .effect .next ≡ fresh)
     × (step fresh (draw 0 6 1) .value ≡ 0)
@@ -312,9 +345,6 @@ OutcomeRow =
     ≡ record { number = 24; value = 0; effect = record { emptied = 0; buffer = 7 ∷ []; next = 2; trace = [] } })
 
 -- the seed calls, from K and C: an update of a fresh state reseeds with the 64 bytes, and 64 bytes follow; a write is these alone
-unfoldable pub firstSeed : List ℕ
-firstSeed = tabulate (λ (i : ℕ). i) 64
-
 abbrev pub UpdateBytesRow : Type 0
 UpdateBytesRow =
     let w : GeneratorState = record { key = D (replicate 32 0 ++ firstSeed); count = 1 } in
@@ -337,7 +367,7 @@ KeptNumberRow =
 abbrev pub SpentOrderRow : Type 0
 SpentOrderRow =
     refusals (withTimer 1 (2 ^ 128 - 1) 5 0 false)
-    (request 0 [] ∷ update 0 (replicate 64 1) ∷ write 0 (replicate 64 1) ∷ draw 0 1 1 ∷ shuffle 0 (5 ∷ 6 ∷ []) ∷ []) ≡ replicate 5 21
+    (request 0 [] ∷ update 0 firstSeed ∷ write 0 firstSeed ∷ draw 0 1 1 ∷ shuffle 0 (5 ∷ 6 ∷ []) ∷ []) ≡ replicate 5 21
 
 -- requests on one key, 21: C = 0 with a number above 0; not where C is 1, though no pool reseed was made (seeded by an update alone)
 abbrev pub CountClauseRow : Type 0
@@ -395,6 +425,10 @@ pub record Boundaries : Type 0 where
   pub spentOrder : SpentOrderRow
   pub seeds : SeedRow
   pub seedRoom : SeedRoomRow
+  pub blank : BlankRow
+  pub blankPlaces : BlankPlacesRow
+  pub blankOrder : BlankOrderRow
+  pub blankWrites : BlankWriteRow
   pub draws : DrawRow
   pub shuffles : ShuffleRow
   pub listSizes : ListSizeRow

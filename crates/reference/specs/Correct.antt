@@ -9,6 +9,7 @@ use Rattle.reference.specs.Provenance.{Provenance}
 use Rattle.reference.specs.Timer.{ElapsedLaw, TimerStep}
 use Rattle.reference.specs.Counters.{NoRepeat, counterBlocks, Counted}
 use Rattle.reference.specs.KeyRequests.{OnOneKey}
+use Rattle.reference.specs.Blank.{BlankLaw}
 
 pub record RunCorrect (calls : List Call) : Type 0 where
   -- the run is its calls' steps, one after the other
@@ -25,3 +26,5 @@ pub record RunCorrect (calls : List Call) : Type 0 where
   pub counted : Counted calls
   -- the number in the state is how many requests were made on the key, up to 65,535
   pub key-requests : OnOneKey calls
+  -- 36 refuses the updates of 64 equal bytes, whatever came before, and decides nothing else
+  pub blank : BlankLaw
