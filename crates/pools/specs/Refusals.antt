@@ -70,15 +70,15 @@ requestNumber malformed c due n = andThen (requestInput n) (outputState malforme
 unfoldable pub seedInput : List ℕ → ℕ
 seedInput seed = refuse (not (eqb (length seed) seedSize)) 15 0
 
-unfoldable pub writeNumber : Bool → ℕ → Bool → List ℕ → ℕ
-writeNumber malformed c due seed = andThen (seedInput seed) (outputState malformed c due (blockCount seedSize + 2))
-
 -- 36: the bytes are all equal, as on a page of flash memory that was never written: 64 times the first of them
 unfoldable pub blank : List ℕ → Bool
 blank seed = sameList seed (replicate seedSize (getD seed 0 0))
 
 unfoldable pub updateInput : List ℕ → ℕ
 updateInput seed = andThen (seedInput seed) (refuse (blank seed) 36 0)
+
+unfoldable pub writeNumber : Bool → ℕ → Bool → List ℕ → ℕ
+writeNumber malformed c due seed = andThen (seedInput seed) (outputState malformed c due (blockCount seedSize + 2))
 
 unfoldable pub updateState : Bool → ℕ → Bool → ℕ
 updateState malformed c due = refuse malformed 21 (refuse (spent c due 7) 24 0)

@@ -134,13 +134,13 @@ fn is_blank(seed: &[u8]) -> bool
     ensures { λ r. ⌜ r ≡ blank (now (seed .entry)) ⌝ }
 {
     let first = seed[0];
-    let mut d = 0u8;
+    let mut differing = 0u8;
     let mut i: usize = 0;
     while i < SEED_SIZE {
-        d = d | (seed[i] ^ first);
+        differing = differing | (seed[i] ^ first);
         i += 1;
     }
-    d == 0
+    differing == 0
 }
 
 // The answer to a seed update on the lent bytes.

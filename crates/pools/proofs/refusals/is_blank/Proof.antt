@@ -28,8 +28,8 @@ loop-holds c = (omega arith, refl)
 shared-slice-read-first : tie.Need-shared-slice-read-first Inv-loop μ-loop
 shared-slice-read-first c = search needs
 
-shared-slice-read-d : tie.Need-shared-slice-read-d Inv-loop μ-loop
-shared-slice-read-d c = search needs
+shared-slice-read-differing : tie.Need-shared-slice-read-differing Inv-loop μ-loop
+shared-slice-read-differing c = search needs
 
 add-i : tie.Need-add-i Inv-loop μ-loop
 add-i c = search needs
@@ -48,7 +48,7 @@ loop-again c =
     let head = c .before .before in
     let start = head .before .before in
     let seed = start .args .seed .now in
-    (omega arith, compared-turn (head .loop .d) (head .loop .i) (getD seed 0 0) seed (c .before .loop-test .taken) (start .pre) (head .loop .inv .1))
+    (omega arith, compared-turn (head .loop .differing) (head .loop .i) (getD seed 0 0) seed (c .before .loop-test .taken) (start .pre) (head .loop .inv .1))
 
 returns : tie.Need-returns Inv-loop μ-loop
 unfolding blank seedSize
@@ -56,9 +56,9 @@ returns c =
     let head = c .before in
     let start = head .before .before in
     let seed = start .args .seed .now in
-    compared-all (head .loop .d) (head .loop .i) seed (page (getD seed 0 0)) (omega (arith, start .pre)) (rw length-replicate (omega arith)) (head .loop .inv .1)
+    compared-all (head .loop .differing) (head .loop .i) seed (page (getD seed 0 0)) (omega (arith, start .pre)) (rw length-replicate (omega arith)) (head .loop .inv .1)
 
 pub is-blank-spec : {M : Type 1} → statement M
 is-blank-spec =
     tie.close
-    (tie.spec Inv-loop μ-loop shared-slice-read-first loop-holds shared-slice-read-d add-i loop-less loop-again returns)
+    (tie.spec Inv-loop μ-loop shared-slice-read-first loop-holds shared-slice-read-differing add-i loop-less loop-again returns)
