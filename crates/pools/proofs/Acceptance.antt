@@ -19,7 +19,7 @@ use Rattle.generator.specs.Refusals.{maxRequest}
 use Rattle.pools.specs.Events.{maxSource, poolCount, maxData, gain}
 use Rattle.pools.specs.Pool.{full}
 use Rattle.slots.specs.Shuffle.{hasRepeat}
-use Rattle.pools.specs.Refusals.{andThen, seedSize, maxBelow, maxTries, maxList, unseeded, spent, eventInput, eventState, eventNumber, requestInput, outputState, requestNumber, seedInput, writeNumber, blank, updateInput, updateState, updateNumber, drawInput, drawNumber, listInput, shuffleState, shuffleNumber}
+use Rattle.pools.specs.Refusals.{andThen, seedSize, maxBelow, maxTries, maxList, unseeded, spent, eventInput, eventState, eventNumber, requestInput, outputState, requestNumber, seedInput, writeNumber, updateInput, updateState, updateNumber, drawInput, drawNumber, listInput, shuffleState, shuffleNumber}
 
 -- ---- two chains, one after the other
 
@@ -68,36 +68,34 @@ request-short m c due n e =
 
 -- ---- a seed call
 
-sized : (seed : List ℕ) → seedInput seed ≡ 0 → length seed ≡ seedSize
-unfolding seedInput
-sized seed e = by-test (eqb (length seed) seedSize) (length seed ≡ seedSize) (eqb-true (length seed) seedSize) (λ t. absurd (wrong (rw t at e)))
-  where
-    wrong : _≡_ {A = ℕ} 15 0 → ⊥
-    wrong h = omega arith
+-- whose number is 15 at another size
+sized : (seed : List ℕ) (n : ℕ) → (eqb (length seed) seedSize ≡ false → n ≡ 15) → n ≡ 0 → length seed ≡ seedSize
+sized seed n other e =
+    by-test (eqb (length seed) seedSize) (length seed ≡ seedSize)
+    (eqb-true (length seed) seedSize)
+    (λ t. let h : n ≡ 15 = other t in absurd (omega (arith, h, e)))
 
 pub write-size : (m : Bool) (c : ℕ) (due : Bool) (seed : List ℕ) → writeNumber m c due seed ≡ 0 → length seed ≡ seedSize
-unfolding writeNumber
-write-size m c due seed e = sized seed (both-passed (seedInput seed) (outputState m c due (blockCount seedSize + 2)) e .0)
+unfolding writeNumber updateInput seedInput andThen
+write-size m c due seed e = sized seed (writeNumber m c due seed) (λ t. rw t) e
 
 pub write-passed : (m : Bool) (c : ℕ) (due : Bool) (seed : List ℕ) → writeNumber m c due seed ≡ 0 → OutputPassed m c due (blockCount seedSize + 2)
 unfolding writeNumber
 write-passed m c due seed e =
-    output-passed m c due (blockCount seedSize + 2) (both-passed (seedInput seed) (outputState m c due (blockCount seedSize + 2)) e .1)
+    output-passed m c due (blockCount seedSize + 2) (both-passed _ (outputState m c due (blockCount seedSize + 2)) e .1)
 
 pub write-room : (m : Bool) (c : ℕ) (due : Bool) (seed : List ℕ) → writeNumber m c due seed ≡ 0
     → c + cond due 1 0 + (blockCount seedSize + 2) ≤ maxCounter
 write-room m c due seed e = not-spent c due (blockCount seedSize + 2) (write-passed m c due seed e .room)
 
 pub update-size : (m : Bool) (c : ℕ) (due : Bool) (seed : List ℕ) → updateNumber m c due seed ≡ 0 → length seed ≡ seedSize
-unfolding updateNumber updateInput
-update-size m c due seed e =
-    let input = both-passed (updateInput seed) (updateState m c due) e .0 in
-    sized seed (both-passed (seedInput seed) (refuse (blank seed) 36 0) input .0)
+unfolding updateNumber updateInput seedInput andThen
+update-size m c due seed e = sized seed (updateNumber m c due seed) (λ t. rw t) e
 
 pub update-passed : (m : Bool) (c : ℕ) (due : Bool) (seed : List ℕ) → updateNumber m c due seed ≡ 0 → (m ≡ false) × (spent c due 7 ≡ false)
 unfolding updateNumber updateState
 update-passed m c due seed e =
-    let s = both-passed (updateInput seed) (refuse m 21 (refuse (spent c due 7) 24 0)) e .1 in
+    let s = both-passed _ (refuse m 21 (refuse (spent c due 7) 24 0)) e .1 in
     let p = passed m 21 (refuse (spent c due 7) 24 0) (omega arith) s in
     (p .0, passed (spent c due 7) 24 0 (omega arith) (p .1) .0)
 

@@ -1,22 +1,20 @@
 -- Bounds of what a call answers: its number is one of a list, of two digits, and no more pools are emptied than there are.
 -- Assumes nothing.
-use mathlib.Core.Path.{_≡_, refl}
-use mathlib.Core.Bool.{Bool, true, false, cond, not, _||_}
+use mathlib.Core.Path.{_≡_}
+use mathlib.Core.Bool.{Bool, true, false, cond}
 use mathlib.Core.List.{List, [], _∷_}
 use Prim.Native.Nat.{ℕ, zero, suc, _+_, _-_, _≤_, _<_, zero-le}
 use native.Mathlib.Omega.{arith}
 use lib.Dec.{eqb, ltb, lit≤}
 use lib.ListN.{length, length-append}
+use borrow.Author.Tests.{ltb-false}
 use Rattle.laws.specs.Lists.{countOf}
 use Rattle.laws.specs.Refusals.{refuse}
 use Rattle.laws.proofs.Cases.{split}
-use Rattle.slots.specs.Shuffle.{hasRepeat}
-use Rattle.generator.specs.Refusals.{maxRequest}
-use Rattle.pools.specs.Events.{maxSource, poolCount, maxData, gain}
+use Rattle.pools.specs.Events.{poolCount}
 use Rattle.pools.specs.Schedule.{used, usedBelow, usedPools}
-use Rattle.pools.specs.Pool.{full}
 use Rattle.pools.specs.State.{due}
-use Rattle.pools.specs.Refusals.{andThen, seedSize, maxBelow, maxTries, maxList, unseeded, spent, eventInput, eventState, eventNumber, requestInput, outputState, requestNumber, seedInput, writeNumber, blank, updateInput, updateState, updateNumber, drawInput, drawNumber, listInput, shuffleState, shuffleNumber}
+use Rattle.pools.specs.Refusals.{andThen, eventInput, eventState, eventNumber, requestInput, outputState, requestNumber, seedInput, writeNumber, updateInput, updateState, updateNumber, drawInput, drawNumber, listInput, shuffleState, shuffleNumber}
 use Rattle.pools.specs.Effects.{unchanged, nextReseed, emptiedBy, randomData, updateSeed, writeSeed}
 use Rattle.pools.specs.Draws.{Drawn, leaving, tries, shuffleFrom, shuffled, tryAt}
 use Rattle.pools.specs.Calls.{Call, event, request, update, write, draw, shuffle, inputBuffer, callNumber, callEffect, callFound, effectOf, outcome, step}
@@ -28,79 +26,44 @@ use Rattle.pools.proofs.OneReseed.{first-try, first-shuffle}
 
 -- ---- numbers
 
--- what holds of each number of a chain holds of the chain's own
-module _ (P : ℕ → Type 0) where
-  refuse-holds : (t : Bool) (n rest : ℕ) → P n → P rest → P (refuse t n rest)
-  refuse-holds true n rest h k = h
-  refuse-holds false n rest h k = k
-
-  then-holds : (first second : ℕ) → P first → P second → P (andThen first second)
-  unfolding andThen
-  then-holds first second h k = split P (eqb first 0) (λ t. k) (λ t. h)
-
-  event-holds : (m : Bool) (size source pool n : ℕ) → P 0 → P 11 → P 12 → P 13 → P 21 → P 22 → P (eventNumber m size source pool n)
-  unfolding eventNumber eventInput eventState
-  event-holds m size source pool n p0 p11 p12 p13 p21 p22 =
-      let data-holds = refuse-holds (eqb n 0 || ltb maxData n) 13 0 p13 p0 in
-      let input-holds = refuse-holds (ltb maxSource source) 11 _ p11 (refuse-holds (ltb (poolCount - 1) pool) 12 _ p12 data-holds) in
-      then-holds _ _ input-holds (refuse-holds m 21 _ p21 (refuse-holds (full size (gain n)) 22 0 p22 p0))
-
-  request-holds : (n : ℕ) → P 0 → P 14 → P (requestInput n)
-  unfolding requestInput
-  request-holds n p0 p14 = refuse-holds (ltb maxRequest n) 14 0 p14 p0
-
-  output-holds : (m : Bool) (c : ℕ) (d : Bool) (b : ℕ) → P 0 → P 21 → P 23 → P 24 → P (outputState m c d b)
-  unfolding outputState
-  output-holds m c d b p0 p21 p23 p24 =
-      refuse-holds m 21 _ p21 (refuse-holds (unseeded c d) 23 _ p23 (refuse-holds (spent c d b) 24 0 p24 p0))
-
-  seed-holds : (seed : List ℕ) → P 0 → P 15 → P (seedInput seed)
-  unfolding seedInput
-  seed-holds seed p0 p15 = refuse-holds (not (eqb (length seed) seedSize)) 15 0 p15 p0
-
-  update-holds : (m : Bool) (c : ℕ) (d : Bool) (seed : List ℕ) → P 0 → P 15 → P 36 → P 21 → P 24 → P (updateNumber m c d seed)
-  unfolding updateNumber updateInput updateState
-  update-holds m c d seed p0 p15 p36 p21 p24 =
-      then-holds _ _ (then-holds _ _ (seed-holds seed p0 p15) (refuse-holds (blank seed) 36 0 p36 p0))
-      (refuse-holds m 21 _ p21 (refuse-holds (spent c d 7) 24 0 p24 p0))
-
-  draw-holds : (n d : ℕ) → P 0 → P 31 → P 32 → P (drawInput n d)
-  unfolding drawInput
-  draw-holds n d p0 p31 p32 = refuse-holds (eqb n 0 || ltb maxBelow n) 31 _ p31 (refuse-holds (eqb d 0 || ltb maxTries d) 32 0 p32 p0)
-
-  list-holds : (list : List ℕ) → P 0 → P 31 → P (listInput list)
-  unfolding listInput
-  list-holds list p0 p31 = refuse-holds (ltb maxList (length list) || hasRepeat list) 31 0 p31 p0
-
-  shuffle-holds : (m : Bool) (c : ℕ) (d : Bool) (n : ℕ) → P 0 → P 21 → P 23 → P 24 → P (shuffleState m c d n)
-  unfolding shuffleState
-  shuffle-holds m c d n p0 p21 p23 p24 =
-      split P (ltb n 2) (λ t. refuse-holds m 21 0 p21 p0) (λ t. output-holds m c d _ p0 p21 p23 p24)
+-- what holds of each number of two chains holds of the first that applies
+then-holds : (P : ℕ → Type 0) (first second : ℕ) → P first → P second → P (andThen first second)
+unfolding andThen
+then-holds P first second h k = split P (eqb first 0) (λ t. k) (λ t. h)
 
 -- a number of the call's list, of two digits
-abbrev Known : Call → ℕ → Type 0
-Known c n = (countOf n (callNumbers c) ≡ 1) × (n ≤ 99)
+record Known (c : Call) (n : ℕ) : Type 0 where
+  listed : countOf n (callNumbers c) ≡ 1
+  small : ltb 99 n ≡ false
+
+module _ (c : Call) where
+  refuse-known : (t : Bool) (n rest : ℕ) → Known c n → Known c rest → Known c (refuse t n rest)
+  refuse-known true n rest h k = h
+  refuse-known false n rest h k = k
+
+  then-known : (first second : ℕ) → Known c first → Known c second → Known c (andThen first second)
+  then-known = then-holds (Known c)
+
+-- the chains of which checks are made; a search goes along them, whatever their order
+chains : Unit {0}
+unfolding eventNumber eventInput eventState requestNumber requestInput outputState seedInput writeNumber updateInput updateState updateNumber
+chains = tt
+
+drawChains : Unit {0}
+unfolding drawNumber drawInput listInput shuffleState shuffleNumber
+drawChains = tt
 
 number-known : (s : Fortuna) (c : Call) → Known c (callNumber s c)
-unfolding callNumber requestNumber writeNumber drawNumber shuffleNumber countOf callNumbers
-number-known s (event source pool content) =
-    event-holds (Known (event source pool content)) _ _ source pool (length content) (refl, lit≤ tt) (refl, lit≤ tt) (refl, lit≤ tt) (refl, lit≤ tt) (refl, lit≤ tt) (refl, lit≤ tt)
-number-known s (request clock buffer) =
-    let P = Known (request clock buffer) in
-    then-holds P _ _ (request-holds P (length buffer) (refl, lit≤ tt) (refl, lit≤ tt)) (output-holds P _ _ _ _ (refl, lit≤ tt) (refl, lit≤ tt) (refl, lit≤ tt) (refl, lit≤ tt))
-number-known s (update clock seed) = update-holds (Known (update clock seed)) _ _ _ seed (refl, lit≤ tt) (refl, lit≤ tt) (refl, lit≤ tt) (refl, lit≤ tt) (refl, lit≤ tt)
-number-known s (write clock seed) =
-    let P = Known (write clock seed) in
-    then-holds P _ _ (seed-holds P seed (refl, lit≤ tt) (refl, lit≤ tt)) (output-holds P _ _ _ _ (refl, lit≤ tt) (refl, lit≤ tt) (refl, lit≤ tt) (refl, lit≤ tt))
-number-known s (draw clock n d) =
-    let P = Known (draw clock n d) in
-    then-holds P _ _ (draw-holds P n d (refl, lit≤ tt) (refl, lit≤ tt) (refl, lit≤ tt)) (output-holds P _ _ _ _ (refl, lit≤ tt) (refl, lit≤ tt) (refl, lit≤ tt) (refl, lit≤ tt))
-number-known s (shuffle clock list) =
-    let P = Known (shuffle clock list) in
-    then-holds P _ _ (list-holds P list (refl, lit≤ tt) (refl, lit≤ tt)) (shuffle-holds P _ _ _ _ (refl, lit≤ tt) (refl, lit≤ tt) (refl, lit≤ tt) (refl, lit≤ tt))
+unfolding callNumber chains drawChains countOf callNumbers
+number-known s (event source pool content) = search (refuse-known, then-known) depth 8
+number-known s (request clock buffer) = search (refuse-known, then-known) depth 8
+number-known s (update clock seed) = search (refuse-known, then-known) depth 8
+number-known s (write clock seed) = search (refuse-known, then-known) depth 8
+number-known s (draw clock n d) = search (refuse-known, then-known) depth 8
+number-known s (shuffle clock list) = search (refuse-known, then-known) depth 8
 
 pub call-numbers : CallNumbersLaw
-call-numbers s c = number-known s c .0
+call-numbers s c = number-known s c .listed
 
 not-listed : (c : Call) → countOf 33 (callNumbers c) ≡ 1 → ⊥
 unfolding countOf callNumbers
@@ -117,7 +80,7 @@ none-drawn s c e = not-listed c (rw e at (call-numbers s c))
 pub step-number-small : (s : Fortuna) (c : Call) → step s c .number ≤ 99
 unfolding step outcome
 step-number-small s c =
-    then-holds (λ (k : ℕ). k ≤ 99) _ _ (number-known s c .1) (split (λ (k : ℕ). k ≤ 99) (callFound s c) (λ t. zero-le) (λ t. lit≤ tt))
+    then-holds (λ (k : ℕ). k ≤ 99) _ _ (ltb-false 99 _ (number-known s c .small)) (split (λ (k : ℕ). k ≤ 99) (callFound s c) (λ t. zero-le) (λ t. lit≤ tt))
 
 -- an answer's number
 pub answer-small : (a : Answer) → number a < 100

@@ -48,7 +48,7 @@ loop-again c =
     let head = c .before .before in
     let start = head .before .before in
     let seed = start .args .seed .now in
-    (omega arith, compared-turn (head .loop .differing) (head .loop .i) (getD seed 0 0) seed (c .before .loop-test .taken) (start .pre) (head .loop .inv .1))
+    (omega arith, compared-turn (head .loop .differing) (head .loop .i) (getD seed 0 0) seed (omega (arith, c .before .loop-test .taken)) (start .pre) (head .loop .inv .1))
 
 returns : tie.Need-returns Inv-loop μ-loop
 unfolding blank seedSize

@@ -4,7 +4,6 @@ use lib.Dec.{lit≤}
 use borrow.Author.Tests.{eq-eqb, ne-eqb}
 use Rattle.pools.specs.Promises.{number}
 use Rattle.pools.specs.Refusals.{andThen, seedSize, seedInput, updateInput, updateState, updateNumber}
-use borrow.Author.Needs.{needs}
 use Rattle.pools.proofs.refusals.update_answer.Statement.{statement}
 use Rattle.pools.proofs.refusals.update_answer.Tie as tie
 
