@@ -31,6 +31,11 @@ def booked(event):
     return 2**event.pool * (event.r // 2**event.pool + 1)
 
 
+def blank(page):
+    """Whether a page is as flash memory that was never written (02, vii): no byte differs from the one before it."""
+    return all(before == byte for before, byte in zip(page, page[1:]))
+
+
 def running(front, content):
     """The running hash, tail and length that a pool's bytes leave. The hash goes on from D's front, which the length does
     not count."""
@@ -48,6 +53,7 @@ class Logbook:
 
     front = ZERO_BLOCK  # what D hashes before its message: whole blocks
     source_bytes = 2  # of an event's header
+    takes_blank = False  # whether an update takes a blank seed
 
     def __init__(self):
         self.generator = generator.FRESH
@@ -138,6 +144,8 @@ class Logbook:
     def update_refusal(self, clock, seed):
         if len(seed) != SEED_SIZE:
             return 15
+        if blank(seed) and not self.takes_blank:
+            return 36
         return 24 if self.spent(clock, 7) else 0
 
     def write_refusal(self, clock, seed):

@@ -9,10 +9,11 @@ import sys
 import station
 
 CLOCK, STATIONS, SLOTS = 1000, 12, 200
+SEED = bytes([1] + [7] * 63)
 
 
 def written():
-    state = station.update(station.FRESH, CLOCK, bytes([7]) * 64).next
+    state = station.update(station.FRESH, CLOCK, SEED).next
     shuffled = station.shuffle(state, CLOCK, tuple(range(STATIONS)))
     slots, state = [], shuffled.next
     for _ in range(STATIONS):

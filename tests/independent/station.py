@@ -152,8 +152,16 @@ def request(state, clock, buffer):
     return Outcome(refusal, 0, buffer, state) if refusal else random_data(state, clock, size)
 
 
+def update_refusal(state, clock, seed):
+    if len(seed) != SEED_SIZE:
+        return 15
+    if len(set(seed)) == 1:
+        return 36  # a page that was never written (02, vii)
+    return 21 if clauses(state) else counter_refusal(state, clock, 7)
+
+
 def update(state, clock, seed):
-    refusal = 15 if len(seed) != SEED_SIZE else 21 if clauses(state) else counter_refusal(state, clock, 7)
+    refusal = update_refusal(state, clock, seed)
     return Outcome(refusal, 0, seed, state) if refusal else random_data(reseed(state, seed), clock, SEED_SIZE)
 
 
