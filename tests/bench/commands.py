@@ -19,17 +19,27 @@ from program import Failure
 LOGS = ROOT / "tests" / "bench" / "logs"
 COMMANDS = ("bench", "logbook", "checklist", "health")
 ARCHIVE = LOGS / "archive.log"
-KINDS = {"2010": [], "2003": ["--edition", "2003"], "2003, header 1": ["--edition", "2003", "--header", "1"]}  # of logbook
-# What stations of each kind answered to the archive's log. Those from before are kept, by the SHA-256 here: the versions that ran
-# then worked them out, and no program here makes them again.
+KINDS = {  # of logbook
+    "2010": [],
+    "2010, blank taken": ["--blank", "taken"],
+    "2003": ["--edition", "2003"],
+    "2003, header 1": ["--edition", "2003", "--header", "1"],
+}
+EDITIONS = ROOT / "tests" / "bench" / "editions"
+# What stations of each kind answered to the archive's log, which has no blank seed.
 ANSWERED = {
     "2010": LOGS / "archive.answers",
-    "2003": ROOT / "tests" / "bench" / "editions" / "2003.answers",
-    "2003, header 1": ROOT / "tests" / "bench" / "editions" / "2003-header-1.answers",
+    "2010, blank taken": LOGS / "archive.answers",
+    "2003": EDITIONS / "2003.answers",
+    "2003, header 1": EDITIONS / "2003-header-1.answers",
 }
+BLANK_LOG = EDITIONS / "2010-blank-taken.log"  # its first seed and its last are blank
+# What is kept, by its SHA-256: the versions that ran then worked the answers out, and no program here makes them again.
 KEPT = {
-    "2003": "857b1d17e2ef3f0153a237ac20d729b80990ae29249ef9bbe02da56b56d17032",
-    "2003, header 1": "3f5e1dde009a5650d321e39d88fc86289639a39dc9f3f200fee96bd567483349",
+    "2003.answers": "857b1d17e2ef3f0153a237ac20d729b80990ae29249ef9bbe02da56b56d17032",
+    "2003-header-1.answers": "3f5e1dde009a5650d321e39d88fc86289639a39dc9f3f200fee96bd567483349",
+    "2010-blank-taken.log": "f44daaf1b7bfbdb7b99eadaa6a2a1a4727d7b20cfeaf3986ec522b89cfe637a5",
+    "2010-blank-taken.answers": "4c124ede067870f7f36cf11769ad1c5e3b42fe174c44515052c6b32938f8a382",
 }
 
 
@@ -187,8 +197,12 @@ def refuses_editions(folder):
         (["--edition", "2003", "--header", "3"], "argument --header: invalid choice: '3'"),
         (["--header", "1"], "--header 1 goes with --edition 2003"),
         (["--edition", "2010", "--header", "1"], "--header 1 goes with --edition 2003"),
-        (["--compare", "a.answers", "--edition", "2003"], "--compare tries every edition and header"),
-        (["--compare", "a.answers", "--header", "2"], "--compare tries every edition and header"),
+        (["--blank", "kept"], "argument --blank: invalid choice: 'kept'"),
+        (["--edition", "2003", "--blank", "refused"], "--blank refused goes with --edition 2010"),
+        (["--edition", "2003", "--header", "1", "--blank", "refused"], "--blank refused goes with --edition 2010"),
+        (["--compare", "a.answers", "--edition", "2003"], "--compare tries every kind of station"),
+        (["--compare", "a.answers", "--header", "2"], "--compare tries every kind of station"),
+        (["--compare", "a.answers", "--blank", "taken"], "--compare tries every kind of station"),
         (["--compare", "a.answers"], "logbook: a.answers: No such file or directory"),
         (["--compare", ".", str(ARCHIVE)], "logbook: .: Is a directory"),
         (["--compare", str(ANSWERED["2003"]), "a.log"], "logbook: a.log: No such file or directory"),
@@ -197,34 +211,41 @@ def refuses_editions(folder):
         tell([logbook, *words], folder, 2, said)
 
 
+def by_header(two_bytes, one_byte):
+    """The answers of each kind, where nothing but the bytes of a header tells kinds apart."""
+    return dict.fromkeys(KINDS, two_bytes) | {"2003, header 1": one_byte}
+
+
 def told_by_hand():
     """Lines of a log, and the answers of each kind: by the bytes of a header, and whether there is a frame 05. D shows
     nowhere, since no byte is drawn."""
-    yield [event(7, 0, bytes(30)), event(8, 0, bytes(30)), request(0, 0)], {kind: b"00\n00\n00 01\n" for kind in KINDS}
-    short = {"2010": b"00\n00\n00 01\n", "2003": b"00\n00\n00 01\n", "2003, header 1": b"00\n00\n23\n"}
+    yield [event(7, 0, bytes(30)), event(8, 0, bytes(30)), request(0, 0)], dict.fromkeys(KINDS, b"00\n00\n00 01\n")
+    short = by_header(b"00\n00\n00 01\n", b"00\n00\n23\n")
     yield [event(7, 0, bytes(30)), event(8, 0, bytes(29)), request(0, 0)], short
     wide = [wide_event(7, 3, b"\xa1"), wide_event(900, 32, b"\xa1"), wide_event(7, 3, bytes(125)), event(7, 3, bytes(126))]
-    yield wide, {"2010": b"00\n12\n13\n16\n", "2003": b"00\n12\n13\n16\n", "2003, header 1": b"16\n16\n16\n16\n"}
+    yield wide, by_header(b"00\n12\n13\n16\n", b"16\n16\n16\n16\n")
 
 
 def works_out_editions(folder):
     """Each kind answers as its stations did."""
-    for kind, digest in KEPT.items():
-        if hashlib.sha256(ANSWERED[kind].read_bytes()).hexdigest() != digest:
-            raise Failure(f"{ANSWERED[kind]} is not what was kept")
+    for name, digest in KEPT.items():
+        if hashlib.sha256((EDITIONS / name).read_bytes()).hexdigest() != digest:
+            raise Failure(f"{EDITIONS / name} is not what was kept")
     cases = [(ARCHIVE.read_bytes(), {kind: path.read_bytes() for kind, path in ANSWERED.items()})]
+    cases += [(BLANK_LOG.read_bytes(), {"2010, blank taken": BLANK_LOG.with_suffix(".answers").read_bytes()})]
     cases += [(log_of(lines), expected) for lines, expected in told_by_hand()]
     for log, expected in cases:
         (folder / "old.log").write_bytes(log)
-        for kind, words in KINDS.items():
-            found = tell([str(ROOT / "bin" / "logbook"), *words, "old.log"], folder, 0, None)
-            if found != expected[kind].decode():
+        for kind, answered in expected.items():
+            found = tell([str(ROOT / "bin" / "logbook"), *KINDS[kind], "old.log"], folder, 0, None)
+            if found != answered.decode():
                 raise Failure(f"edition {kind}: other answers than its stations gave, to {log[:80]}: {found[:200]}")
 
 
 NONE = "no edition gives these answers\n"
 BOTH = "both editions give these answers: no byte was drawn that tells them apart\n"
 EITHER = "edition 2003, with either header: no event has entered a key that was drawn from\n"
+NO_BLANK = "edition 2010, blank seeds refused or taken: the log has no update of 64 equal bytes\n"
 
 
 def shown(reply):
@@ -246,7 +267,8 @@ def verdict(worked_out, given):
 def archive_comparisons():
     """Answers to the archive's log, and the status of --compare with its last line, if that is no kind's."""
     old = ANSWERED["2003"].read_bytes()
-    yield from ((path.read_bytes(), 0, "") for path in ANSWERED.values())
+    yield ANSWERED["2010"].read_bytes(), 0, NO_BLANK
+    yield from ((ANSWERED[kind].read_bytes(), 0, "") for kind in ("2003", "2003, header 1"))
     yield old.removesuffix(b"\n"), 0, ""
     yield b"".join(old.splitlines(keepends=True)[:100]), 1, NONE
     yield old + b"00\n", 1, NONE
@@ -265,13 +287,25 @@ def comparisons(worked_out):
     for log, all_give in ((example, answered), (b"", b"")):
         yield log, dict.fromkeys(KINDS, all_give), all_give, 1, BOTH
     wide = log_of([event(7, 3, b"\xa1"), wide_event(7, 3, b"\xa1")])
-    kinds = {"2010": b"00\n00\n", "2003": b"00\n00\n", "2003, header 1": b"00\n16\n"}
+    kinds = by_header(b"00\n00\n", b"00\n16\n")
     yield wide, kinds, b"00\n00\n", 1, BOTH
     yield wide, kinds, b"00\n16\n", 0, ""
     seeded = log_of([update(0, bytes(range(64))), event(7, 0, bytes(30)), request(0, 16)])
     kinds = {kind: worked_out(kind, seeded) for kind in KINDS}
-    yield seeded, kinds, kinds["2010"], 0, ""
+    yield seeded, kinds, kinds["2010"], 0, NO_BLANK
     yield seeded, kinds, kinds["2003"], 0, EITHER
+    yield from blank_comparisons(worked_out)
+
+
+def blank_comparisons(worked_out):
+    """The same of logs with a blank seed, which tells the kinds of edition 2010 apart."""
+    blank = log_of([update(0, b"\xff" * 64), request(0, 16)])
+    for log, old in ((blank, EITHER), (BLANK_LOG.read_bytes(), "")):
+        kinds = {kind: worked_out(kind, log) for kind in KINDS}
+        if not kinds["2010"].startswith(b"36\n23\n"):
+            raise Failure(f"a station of now took a blank seed: {kinds['2010'][:80]}")
+        for kind, last in (("2010", ""), ("2010, blank taken", ""), ("2003", old)):
+            yield log, kinds, kinds[kind], 0, last
 
 
 def tells_editions(folder):

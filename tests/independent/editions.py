@@ -1,5 +1,5 @@
 #!/usr/bin/env python3
-"""usage: logbook [--edition YEAR] [--header BYTES] [FILE]
+"""usage: logbook [--edition YEAR] [--header BYTES] [--blank taken|refused] [FILE]
        logbook --compare ANSWERS [FILE]
 
 Works the answers to a log out again, keys included, from the calls in the log alone, and prints them as bin/bench does.
@@ -10,8 +10,12 @@ no FILE is given.
                        option, or 2003, for stations from before: their D had no 64 zero bytes in front
   --header BYTES       the bytes of the source in an event's header: 2, or with --edition 2003 also 1, for stations from
                        before frame 05
-  --compare ANSWERS    tells which of the three kinds a station was: 2010, 2003, or 2003 with header 1. ANSWERS is the
-                       file of what it answered to the log. Prints for each kind the first line that differs, if any
+  --blank taken        for stations of edition 2010 from before refusal 36, which took an update from a blank seed: 64
+                       equal bytes, as a page of flash memory that was never written. Without this option it is refused,
+                       and taken with --edition 2003, whose stations all took it
+  --compare ANSWERS    tells which of the four kinds a station was: 2010, 2010 with blank seeds taken, 2003, 2003 with
+                       header 1. ANSWERS is the file of what it answered to the log. Prints for each kind the first line
+                       that differs, if any
   --help               prints this
 
 Exit status: 0 every line was answered, or exactly one edition gives ANSWERS; 1 none does, or both, as for a log that
@@ -19,6 +23,7 @@ draws no byte; 2 bad arguments, a file can't be read, or the answers can't be wr
 """
 import signal
 import sys
+from collections import namedtuple
 from functools import partial
 from itertools import zip_longest
 
@@ -29,7 +34,13 @@ MOST_ANSWER = 2**18  # characters, more than an answer has: one of 65,535 bytes 
 MOST_SHOWN = 16
 
 
-class Logbook2003(Logbook):
+class BlankLogbook(Logbook):
+    """From before 02 (vii): an update takes a blank seed."""
+
+    takes_blank = True
+
+
+class Logbook2003(BlankLogbook):
     """From before 02 (v): D is SHA-256 twice, with nothing in front."""
 
     front = b""
@@ -41,12 +52,21 @@ class OneByteLogbook(Logbook2003):
     source_bytes = 1
 
 
-# All that ever ran, by edition and header.
-KINDS = {("2010", "2"): Logbook, ("2003", "2"): Logbook2003, ("2003", "1"): OneByteLogbook}
+Kind = namedtuple("Kind", "edition header blank")
+# All that ever ran.
+KINDS = {
+    Kind("2010", "2", "refused"): Logbook,
+    Kind("2010", "2", "taken"): BlankLogbook,
+    Kind("2003", "2", "taken"): Logbook2003,
+    Kind("2003", "1", "taken"): OneByteLogbook,
+}
+SEEDS = {"2010": "refused", "2003": "taken"}  # what became of blank ones, where nothing else is said
 
 
-def title(edition, header):
-    return f"edition {edition}" if header == "2" else f"edition {edition}, header {header}"
+def title(kind):
+    header = "" if kind.header == "2" else f", header {kind.header}"
+    seeds = "" if kind.blank == SEEDS[kind.edition] else f", blank {kind.blank}"
+    return f"edition {kind.edition}{header}{seeds}"
 
 
 def shown(reply):
@@ -78,33 +98,50 @@ def differences(log, stored):
     return found, count
 
 
+def conclusion(agreeing):
+    """What is said last of the kinds that give the answers; nothing where that is one."""
+    editions = {kind.edition for kind in agreeing}
+    if not editions:
+        return "no edition gives these answers"
+    if len(editions) > 1:
+        return "both editions give these answers: no byte was drawn that tells them apart"
+    if len(agreeing) == 1:
+        return ""
+    if editions == {"2003"}:
+        return "edition 2003, with either header: no event has entered a key that was drawn from"
+    return "edition 2010, blank seeds refused or taken: the log has no update of 64 equal bytes"
+
+
 def compare(log, stored):
     """Prints what --compare tells, and gives the exit status."""
     found, count = differences(log, iter(partial(stored.readline, MOST_ANSWER), b""))
     for kind in KINDS:
-        print(f"{title(*kind)}: {found.get(kind, f'all {count} lines agree')}")
+        print(f"{title(kind)}: {found.get(kind, f'all {count} lines agree')}")
     agreeing = [kind for kind in KINDS if kind not in found]
-    editions = {edition for edition, _ in agreeing}
-    if not editions:
-        print("no edition gives these answers")
-    elif len(editions) > 1:
-        print("both editions give these answers: no byte was drawn that tells them apart")
-    elif len(agreeing) > 1:
-        print(f"edition {agreeing[0][0]}, with either header: no event has entered a key that was drawn from")
-    return 0 if len(editions) == 1 else 1
+    if last := conclusion(agreeing):
+        print(last)
+    return 0 if len({kind.edition for kind in agreeing}) == 1 else 1
 
 
 def parsed(parser):
     parser.add_argument("--edition", choices=("2010", "2003"))
     parser.add_argument("--header", choices=("2", "1"))
+    parser.add_argument("--blank", choices=("taken", "refused"))
     parser.add_argument("--compare", metavar="ANSWERS")
     parser.add_argument("file", nargs="?")
     chosen = parser.parse_args()
-    if chosen.compare is not None and (chosen.edition or chosen.header):
-        parser.error("--compare tries every edition and header, and goes with neither --edition nor --header")
+    if chosen.compare is not None and (chosen.edition or chosen.header or chosen.blank):
+        parser.error("--compare tries every kind of station, and goes with none of --edition, --header and --blank")
     if chosen.header == "1" and chosen.edition != "2003":
         parser.error("--header 1 goes with --edition 2003: no station had it with another edition")
+    if chosen.blank == "refused" and chosen.edition == "2003":
+        parser.error("--blank refused goes with --edition 2010: stations of edition 2003 took a blank seed")
     return chosen
+
+
+def chosen_kind(chosen):
+    edition = chosen.edition or "2010"
+    return Kind(edition, chosen.header or "2", chosen.blank or SEEDS[edition])
 
 
 def work(parser, chosen):
@@ -113,8 +150,7 @@ def work(parser, chosen):
         if chosen.compare is not None:
             with parser.opened(chosen.compare) as stored:
                 return compare(log, stored)
-        book = KINDS[chosen.edition or "2010", chosen.header or "2"]()
-        sys.stdout.buffer.writelines(answers(log, book))
+        sys.stdout.buffer.writelines(answers(log, KINDS[chosen_kind(chosen)]()))
     return 0
 
 
