@@ -1,6 +1,6 @@
 #!/usr/bin/env python3
-"""01's 'Readings on the workbench', those of 02 (iii), (iv) and (v), and the bounds of the refusals, asked of logbook.py;
-those of 21, which no run of calls meets, of station.py.
+"""01's 'Readings on the workbench', those of 02 (iii), (iv), (v) and (vii), and the bounds of the refusals, asked of
+logbook.py; those of 21, which no run of calls meets, of station.py.
 
     tests/independent/readings.py      exits 1 at the first that does not hold"""
 import hashlib
@@ -11,6 +11,9 @@ import station
 from frames import Noise, event, wide_event
 from logbook import Event, Logbook, booked, call_of
 from sha256 import INITIAL, finish
+
+
+PAGE = bytes(range(64))  # a seed that is not blank
 
 
 def filled(size, r=0, mark=0, count=1):
@@ -36,7 +39,7 @@ def growth(n):
 
 def counter_after_update():
     book = Logbook()
-    book.update(0, bytes(64))
+    book.update(0, PAGE)
     return book.generator.count
 
 
@@ -98,7 +101,7 @@ def readings():
     yield "counter's end", [at_limit(END - left) for left in (3, 2)], [0, 24]
     yield "counter's end, due", [at_limit(END - left, 0, 64) for left in (4, 3)], [0, 24]
     yield "counter's end, 17 bytes", [at_limit(END - left, 17) for left in (5, 4)], [0, 24]
-    yield "counter's end, update", [filled(0, 1, 0, END - left).update(9, bytes(64))[0] for left in (8, 7)], [0, 24]
+    yield "counter's end, update", [filled(0, 1, 0, END - left).update(9, PAGE)[0] for left in (8, 7)], [0, 24]
     yield "counter's end, write", [filled(0, 1, 0, END - left).write(9, bytes(64))[0] for left in (7, 6)], [0, 24]
     yield "pool 2", [booked(Event(0, 2, b"", r)) for r in (5, 8)], [8, 12]
     yield "request", [filled(0).request(0, bytes(n))[0] for n in (1048576, 1048577)], [0, 14]
@@ -115,6 +118,8 @@ def readings():
     yield from zero_block_readings()
     yield from pool_readings()
     yield from frame_readings()
+    yield from blank_readings()
+    yield from blank_orders()
 
 
 def on_key(calls, size=0, r=1, before=0):
@@ -128,7 +133,7 @@ def on_key(calls, size=0, r=1, before=0):
 
 def key_readings():
     """Requests on one key (02, iv)."""
-    request, update, write = ("request", b""), ("update", bytes(range(64))), ("write", bytes(64))
+    request, update, write = ("request", b""), ("update", PAGE), ("write", bytes(64))
     yield "fresh, requests on the key", Logbook().station().key_requests, 0
     yield "each one more", [on_key([call], before=9) for call in (request, update, write)], [10] * 3
     yield "each with a pool reseed", [on_key([call], 64, before=9) for call in (request, update, write)], [1] * 3
@@ -168,9 +173,9 @@ def zero_block_readings():
     pool = Logbook().station().pools[0]
     words = " ".join(f"{word:08x}" for word in pool.chain)
     yield "an empty pool", (words, pool.tail, pool.length), (ZERO_BLOCK_HASH, bytes(64), 0)
-    book, page = Logbook(), bytes(range(64))
-    book.reseed_generator(page)
-    key = twice(bytes(64 + 32) + page)
+    book = Logbook()
+    book.reseed_generator(PAGE)
+    key = twice(bytes(64 + 32) + PAGE)
     yield "key after a seed", book.generator.key, key
     for line in Noise("key").filling(64):
         _, *arguments = call_of(line)
@@ -212,6 +217,99 @@ def frame_readings():
     yield "frame 01, length", lengths, [(b"01", 256, True), (b"01", 258, False)]
     lengths = [seen(wide_event(7, 3, bytes(n))) for n in (125, 126)]
     yield "frame 05, length", lengths, [(b"05", 258, True), (b"05", 260, False)]
+
+
+# ---- blank flash (02, vii)
+
+BLANK = b"\xff" * 64
+SEEN = (0xFF, 0x00, 0x5A)  # two that pages were seen to hold, and one more
+
+
+def nearly_blank(byte, place):
+    """A page of one byte but for one place, where a bit differs."""
+    page = bytearray([byte]) * 64
+    page[place] ^= 1 << place % 8
+    return bytes(page)
+
+
+def updates(pages, make=Logbook):
+    """The numbers of updates, each on a station of its own, by the logbook; and whether station.py says the same."""
+    books = [make() for _ in pages]
+    states = [station.FRESH._replace(key=book.generator.key, count=book.generator.count) for book in books]
+    numbers = [book.update(0, page)[0] for book, page in zip(books, pages)]
+    return numbers, numbers == [station.update(state, 0, page).number for state, page in zip(states, pages)]
+
+
+def seeded():
+    return filled(0)
+
+
+def blank_readings():
+    """Which seeds are blank, to both programs; and that a write asks nothing of the page."""
+    for make in (Logbook, seeded):
+        yield "64 equal bytes", updates([bytes([byte]) * 64 for byte in SEEN], make), ([36] * 3, True)
+        yield "64 equal bytes, any", updates([bytes([byte]) * 64 for byte in range(256)], make), ([36] * 256, True)
+        lengths = [bytes([byte]) * size for byte in SEEN for size in (0, 1, 63, 65, 128)]
+        yield "equal bytes, not 64", updates(lengths, make), ([15] * 15, True)
+        pages = [nearly_blank(byte, place) for byte in SEEN for place in range(64)]
+        yield "63 equal bytes and one other", updates(pages, make), ([0] * 192, True)
+        words = [PAGE[:size] * (64 // size) for size in (2, 4, 8, 16, 32)]
+        yield "equal words", updates(words, make), ([0] * 5, True)
+    pages = [bytes([byte]) * 64 for byte in SEEN]
+    yield "write over a blank page", [seeded().write(0, page)[:2] for page in pages], [(0, 0)] * 3
+    yield "what it gives", len({seeded().write(0, page)[2] for page in (*pages, PAGE)}), 1
+    yield "write over a blank page, unseeded", [Logbook().write(0, page)[0] for page in pages], [23] * 3
+    yield "write over a blank page, due", filled(64, count=0).write(0, BLANK)[:2], (0, 1)
+
+
+def left_by(book, seed, clock):
+    """What an update answers, and whether it left all as it was."""
+    before = book.station()
+    answer = book.update(clock, seed)
+    return answer, book.station() == before
+
+
+def malformed_states():
+    """States in each of which one clause of 21 holds and no other."""
+    fresh, empty = station.FRESH, station.EMPTY
+    kept = fresh._replace(key=b"\x01" * 32, count=1)
+    pools = {
+        "pool length": empty._replace(chain=tuple(INITIAL), length=2**61),
+        "bytes after a tail": empty._replace(tail=bytes(63) + b"\x01"),
+        "running hash": empty._replace(chain=tuple(INITIAL)),
+    }
+    yield from ((name, kept._replace(pools=fresh.pools[:31] + (pool,))) for name, pool in pools.items())
+    yield "K without C", fresh._replace(key=bytes(31) + b"\x01")
+    yield "flag without C", fresh._replace(reseeded=True)
+    yield "mark or number without flag", kept._replace(last_reseed=1)
+    yield "requests without C", fresh._replace(key_requests=1)
+
+
+def on_malformed(seed):
+    """The answers to an update on each malformed state, as a set: number, pools emptied, buffer, and whether the state is
+    left as it was."""
+    answers = set()
+    for name, state in malformed_states():
+        assert station.clauses(state) == [name], name
+        outcome = station.update(state, 1000, seed)
+        answers.add((*outcome[:3], outcome.next == state))
+    return answers
+
+
+def blank_orders():
+    """15, 36, 21, 24; and what a refused update leaves."""
+    spent = [filled(0, 1, 0, END - left) for left in (8, 7, 1)]
+    yield "blank, counter's end", [book.update(9, BLANK)[0] for book in spent], [36] * 3
+    yield "blank but 63, counter's end", [book.update(9, BLANK[1:])[0] for book in spent], [15] * 3
+    yield "blank, malformed", on_malformed(BLANK), {(36, 0, BLANK, True)}
+    yield "blank but 65, malformed", on_malformed(BLANK + b"\xff"), {(15, 0, BLANK + b"\xff", True)}
+    yield "nearly blank, malformed", on_malformed(nearly_blank(0xFF, 63)), {(21, 0, nearly_blank(0xFF, 63), True)}
+    yield "each clause of 21", [name for name, _ in malformed_states()], list(station.CLAUSES)
+    for size, r in ((0, 0), (0, 1), (63, 1), (64, 1), (64, 2)):
+        yield "blank, what is left", left_by(filled(size, r, 5), BLANK, 1000), ((36, 0, BLANK), True)
+    yield "blank, unseeded", left_by(filled(64, count=0), bytes(64), 1000), ((36, 0, bytes(64)), True)
+    spent = station.FRESH._replace(key=b"\x01" * 32, count=END - 1)
+    yield "blank, spent state", station.update(spent, 9, BLANK), station.Outcome(36, 0, BLANK, spent)
 
 
 def main():
