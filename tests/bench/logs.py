@@ -15,7 +15,7 @@ from pathlib import Path
 sys.path.append(str(Path(__file__).resolve().parents[1] / "independent"))
 
 import logbook
-from frames import Noise, event, log_of, request, update, wide_event, write
+from frames import Noise, blank_page, event, log_of, nearly_blank, request, update, wide_event, write
 
 LAST = 2**32 - 1  # the clock's last reading
 ARCHIVE = Path(__file__).parent / "logs" / "archive.log"
@@ -135,8 +135,8 @@ def frames():
     lines += [request(5, 0), request(LAST, 65535), write(5), *seed_lengths()]
     lines += [noise.event(0, 1), *seed_lengths(), request(5, 0), *sizes()]
     lines += [*near_frames(), request(6, 20), *noise.filling(64), *seed_lengths(), *data_lengths(), *numbers()]
-    lines += [request(300, 65535), write(300), update(300, bytes(64)), request(300, 65535), request(300, 7), b""]
-    return log_of(lines)
+    lines += [request(300, 65535), write(300), update(300, bytes(64)), update(300, bytes(range(64)))]
+    return log_of([*lines, request(300, 65535), request(300, 7), b""])
 
 
 # ---- the timer
@@ -231,30 +231,76 @@ def archive():
     return log
 
 
+class Calls:
+    """The lines of a log, and the logbook after them."""
+
+    def __init__(self):
+        self.lines = []
+        self.book = logbook.Logbook()
+
+    def add(self, *lines):
+        """The bytes that the last line draws."""
+        for line in lines:
+            self.lines.append(line)
+            answer = logbook.answer(self.book, line)
+        return bytes.fromhex(answer[6:].decode())
+
+
 def seeds():
-    """Each update's 64 bytes are the next update's seed; writes, requests and pool reseeds come between."""
+    """Each update's 64 bytes are the next update's seed; writes, requests and pool reseeds come between. Blank pages, before
+    the first and after the last, are no seed."""
     noise = Noise("seeds")
-    book = logbook.Logbook()
-    lines = []
-
-    def call(line):
-        lines.append(line)
-        return bytes.fromhex(logbook.answer(book, line)[6:].decode())
-
-    seed = bytes(64)
+    calls = Calls()
+    calls.add(update(0, bytes(64)))
+    seed = bytes(range(64))
     for turn in range(120):
         if turn % 3 == 1:
-            for line in noise.filling(64):
-                call(line)
-        seed = call(update(turn * 60, seed))
+            calls.add(*noise.filling(64))
+        seed = calls.add(update(turn * 60, seed))
         if turn % 4 == 2:
-            seed = call(write(turn * 60 + 20))
-        call(request(turn * 60 + 30, 16))
-    call(update(10**5, b"\xff" * 64))
-    return log_of(lines)
+            seed = calls.add(write(turn * 60 + 20))
+        calls.add(request(turn * 60 + 30, 16))
+    calls.add(update(10**5, b"\xff" * 64))
+    return log_of(calls.lines)
 
 
-LOGS = {make.__name__: make for make in (example, empty, no_final_newline, frames, clock, reseeds, archive, seeds)}
+# ---- blank flash (02, vii)
+
+SEEN = (0xFF, 0x00, 0x5A)  # what pages were seen to hold, and one byte more
+
+
+def no_seed(clock, blank=SEEN):
+    """Blank pages of these bytes; equal bytes that are too few or too many."""
+    yield from (update(clock, blank_page(byte)) for byte in blank)
+    yield from (update(clock, bytes([byte]) * size) for byte in SEEN for size in (63, 65))
+
+
+def nearly_blank_pages():
+    """One byte other, at each place; then words that are equal though their bytes are not."""
+    yield from (nearly_blank(byte, place) for place in range(64) for byte in SEEN)
+    yield from (bytes(range(size)) * (64 // size) for size in (2, 4, 8, 16, 32))
+
+
+def flash():
+    """Power-up with blank pages, then seeding by noise. A blank page leaves no trace: not where a reseed is due, nor
+    between keys. What a write gives is the next update's seed."""
+    noise = Noise("flash")
+    calls = Calls()
+    for byte in SEEN:
+        calls.add(update(0, blank_page(byte)), request(0, 16), write(0))
+    calls.add(*no_seed(0, range(256)), *noise.filling(63), *no_seed(0), request(0, 16), write(0), noise.event(0, 1))
+    for mark in (0, 500, 2**32 - 50, 51):  # a reseed is due at each blank page, and the next reading is before it
+        calls.add(update(mark + 300, blank_page(0xFF)), request(mark, 16), *no_seed(mark), request(mark, 16))
+        calls.add(*noise.filling(64), update(mark + 101, bytes(64)), request(mark + 100, 16), write(mark + 100))
+    for page in nearly_blank_pages():
+        calls.add(update(100, page), update(100, blank_page(page[0])), request(100, 16))
+    seed = calls.add(write(100))
+    calls.add(update(100, seed), request(100, 16), *no_seed(200, range(256)), request(152, 16))
+    return log_of(calls.lines)
+
+
+MADE = (example, empty, no_final_newline, frames, clock, reseeds, archive, seeds, flash)
+LOGS = {make.__name__: make for make in MADE}
 
 
 def files():

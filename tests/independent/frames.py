@@ -1,8 +1,10 @@
-"""Lines for the bench (01, Bench lines; 02, iii), without their LF, and bytes that are the same on every run."""
+"""Lines for the bench (01, Bench lines; 02, iii), without their LF, blank pages, and bytes that are the same on every
+run."""
 import hashlib
 
 HEADER = 3  # bytes that a pool gains before an event's data: two of the source, one of the length
 MOST_DATA = 32
+PAGE_SIZE = 64  # of flash memory, for a seed
 
 
 def line(frame):
@@ -42,6 +44,18 @@ def write(clock):
 def log_of(lines):
     """A log whose lines all end with LF."""
     return b"".join(line + b"\n" for line in lines)
+
+
+def blank_page(byte):
+    """A page that was never written (02, vii): FF or 00 was seen, and any byte counts."""
+    return bytes([byte]) * PAGE_SIZE
+
+
+def nearly_blank(byte, place):
+    """The same but for one bit of the byte at this place."""
+    page = bytearray(blank_page(byte))
+    page[place] ^= 1 << place % 8
+    return bytes(page)
 
 
 class Noise:

@@ -8,7 +8,7 @@ import sys
 
 import generator
 import station
-from frames import Noise, event, wide_event
+from frames import Noise, blank_page, event, nearly_blank, wide_event
 from logbook import Event, Logbook, booked, call_of
 from sha256 import INITIAL, finish
 
@@ -221,15 +221,8 @@ def frame_readings():
 
 # ---- blank flash (02, vii)
 
-BLANK = b"\xff" * 64
+BLANK = blank_page(0xFF)
 SEEN = (0xFF, 0x00, 0x5A)  # two that pages were seen to hold, and one more
-
-
-def nearly_blank(byte, place):
-    """A page of one byte but for one place, where a bit differs."""
-    page = bytearray([byte]) * 64
-    page[place] ^= 1 << place % 8
-    return bytes(page)
 
 
 def updates(pages, make=Logbook):
@@ -247,18 +240,21 @@ def seeded():
 def blank_readings():
     """Which seeds are blank, to both programs; and that a write asks nothing of the page."""
     for make in (Logbook, seeded):
-        yield "64 equal bytes", updates([bytes([byte]) * 64 for byte in SEEN], make), ([36] * 3, True)
-        yield "64 equal bytes, any", updates([bytes([byte]) * 64 for byte in range(256)], make), ([36] * 256, True)
+        yield "64 equal bytes", updates(list(map(blank_page, SEEN)), make), ([36] * 3, True)
+        yield "64 equal bytes, any", updates(list(map(blank_page, range(256))), make), ([36] * 256, True)
         lengths = [bytes([byte]) * size for byte in SEEN for size in (0, 1, 63, 65, 128)]
         yield "equal bytes, not 64", updates(lengths, make), ([15] * 15, True)
         pages = [nearly_blank(byte, place) for byte in SEEN for place in range(64)]
         yield "63 equal bytes and one other", updates(pages, make), ([0] * 192, True)
         words = [PAGE[:size] * (64 // size) for size in (2, 4, 8, 16, 32)]
         yield "equal words", updates(words, make), ([0] * 5, True)
-    pages = [bytes([byte]) * 64 for byte in SEEN]
+    pages = list(map(blank_page, SEEN))
     yield "write over a blank page", [seeded().write(0, page)[:2] for page in pages], [(0, 0)] * 3
     yield "what it gives", len({seeded().write(0, page)[2] for page in (*pages, PAGE)}), 1
     yield "write over a blank page, unseeded", [Logbook().write(0, page)[0] for page in pages], [23] * 3
+    states = [station.FRESH, station.FRESH._replace(key=b"\x01" * 32, count=1)]
+    found = [station.write(state, 0, page).number for state in states for page in pages]
+    yield "write over a blank page, station.py", found, [23] * 3 + [0] * 3
     yield "write over a blank page, due", filled(64, count=0).write(0, BLANK)[:2], (0, 1)
 
 
