@@ -5,12 +5,14 @@
 
 Lines lean towards what is near a bound: readings 100 and 101 ms after the mark, pool 0 at 63 and 64 bytes, sources 255,
 256 and 65,535, by either event frame where both can carry them, lines of 254 to 262 characters, seeds of 63 to 65
-bytes. At a difference the log is shortened by leaving lines out, stored, and the exit status is 1."""
+bytes, seeds that are blank or nearly so. At a difference the log is shortened by leaving lines out, stored, and the
+exit status is 1. So it is where what must occur never did."""
 import argparse
 import random
 import sys
 import tempfile
 import time
+from collections import Counter
 from pathlib import Path
 
 sys.path.append(str(Path(__file__).resolve().parents[1] / "independent"))
@@ -25,15 +27,41 @@ SHORTENING = 20  # seconds
 MOST_LOGS = 1000  # after which nothing that is missing is waited for
 
 
+MUST_OCCUR = {
+    *(f"blank, {when}: 36" for when in ("unseeded", "seeded", "a reseed due")),
+    *("nearly blank, unseeded: 0", "nearly blank, seeded: 0", "63 or 65 equal bytes, seeded: 15"),
+}
+
+
+class NotingLogbook(Logbook):
+    """Notes in `occurred` what became of seeds that are blank or nearly so, and when."""
+
+    occurred = Counter()
+
+    def kind(self, seed):
+        equal = max(Counter(seed).values(), default=0)
+        if len(seed) == frames.PAGE_SIZE:
+            return {64: "blank", 63: "nearly blank"}.get(equal)
+        return "63 or 65 equal bytes" if equal == len(seed) in (63, 65) else None
+
+    def update(self, clock, seed):
+        when = ["seeded" if self.generator.count else "unseeded"] + ["a reseed due"] * self.due(clock)
+        answer = super().update(clock, seed)
+        if kind := self.kind(seed):
+            self.occurred.update(f"{kind}, {which}: {answer[0]}" for which in when)
+        return answer
+
+
 class Writer:
     """Writes one log. It keeps the logbook of what it wrote, so that it can aim at the bounds."""
 
+    occurred = NotingLogbook.occurred
     form = frames  # what makes a call's line; its EVENTS are the ways to write an event
     lengths = ([1, 5, 40, 150, 1500], [4, 4, 8, 4, 0.5])  # of a log, with their weights
 
     def __init__(self, chance):
         self.chance = chance
-        self.book = Logbook()
+        self.book = NotingLogbook()
         self.time = self.chance.choice([0, 0, 1, 5000, 2**31, 2**32 - 1000, chance.randrange(2**32)])
         self.seed = chance.randbytes(64)
 
@@ -62,9 +90,12 @@ class Writer:
         return self.one_of([0, 1, 15, 16, 17, small, 300, 5000, 65535], [4, 2, 2, 4, 2, 20, 2, 0.3, 0.05])
 
     def seed_bytes(self):
-        whole = [self.seed, self.chance.randbytes(64), bytes(64), b"\xff" * 64]
         other = self.chance.choice([0, 1, 32, 62, 63, 65, 66, 123])
-        return self.one_of([*whole, self.chance.randbytes(other)], [12, 4, 1, 1, 4])
+        byte = self.chance.choice([0x00, 0xFF, self.chance.randrange(256)])
+        near = frames.nearly_blank(byte, self.chance.choice([0, 63, self.chance.randrange(64)]))
+        pages = [frames.blank_page(byte), near, bytes([byte]) * self.chance.choice([63, 65])]
+        seeds = [self.seed, self.chance.randbytes(64), *pages, self.chance.randbytes(other)]
+        return self.one_of(seeds, [12, 4, 3, 3, 1, 4])
 
     def source(self):
         small, any_source = self.chance.randrange(256), self.chance.randrange(65536)
@@ -196,13 +227,23 @@ def report(program, log, answers):
     print(f"the log is {path}, the answers that were worked out are beside it")
 
 
-def fuzz(program, seconds, seed, writer=Writer, answers=answers_to, missing=lambda: False):
-    """Logs by a writer, whose right answers a function works out. Past its seconds it goes on while what must come is
-    missing, up to MOST_LOGS: by a count and not by a time, so that a slow machine fails no oftener than a fast one."""
+def status_of(occurred, must_occur):
+    """Prints how often each thing occurred, and gives the exit status."""
+    print(", ".join(f"{what}: {times}" for what, times in sorted(occurred.items())))
+    missing = must_occur - set(occurred)
+    if missing:
+        print(f"FAIL  never occurred: {', '.join(sorted(missing))}")
+    return 1 if missing else 0
+
+
+def fuzz(program, seconds, seed, writer=Writer, answers=answers_to, must_occur=frozenset()):
+    """Logs by a writer, whose right answers a function works out. Past its seconds it goes on while the writer's `occurred`
+    lacks what must occur, up to MOST_LOGS: by a count and not by a time, so that a slow machine fails no oftener than a
+    fast one."""
     chance = random.Random(seed)
     start = shown = time.monotonic()
     logs = lines = 0
-    while time.monotonic() < start + seconds or (missing() and logs < MOST_LOGS):
+    while time.monotonic() < start + seconds or (must_occur - set(writer.occurred) and logs < MOST_LOGS):
         log = writer(chance).log()
         if difference(program, log, answers):
             report(program, log, answers)
@@ -213,7 +254,7 @@ def fuzz(program, seconds, seed, writer=Writer, answers=answers_to, missing=lamb
             shown = time.monotonic()
             print(f"{shown - start:.0f} s: {logs} logs, {lines} lines", flush=True)
     print(f"pass  {logs} logs with {lines} lines, no difference")
-    return 0
+    return status_of(writer.occurred, must_occur) if must_occur else 0
 
 
 def main():
@@ -223,7 +264,7 @@ def main():
     parser.add_argument("--seed", type=int, default=random.randrange(2**32))
     chosen = parser.parse_args()
     print(f"seed {chosen.seed}", flush=True)
-    return fuzz(chosen.program, chosen.seconds, chosen.seed)
+    return fuzz(chosen.program, chosen.seconds, chosen.seed, must_occur=MUST_OCCUR)
 
 
 if __name__ == "__main__":
