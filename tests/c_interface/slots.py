@@ -26,7 +26,7 @@ import fuzz
 import generator
 import script
 import station
-from frames import Noise, log_of
+from frames import Noise, blank_page, log_of
 from generator import MAX_REQUEST
 from logbook import MAX_LIST, MAX_TRIES, MOST_TOLD, Logbook, Station
 from logs import check_files, write_files
@@ -41,6 +41,7 @@ SOURCES = (0, 255, 256, 65535, 65536, 2**32 - 1)  # the last two give 11, which 
 MUST_OCCUR = {
     *(("event", number) for number in (0, 11)),
     *(("request", number) for number in (0, 14, 23)),
+    *(("update", number) for number in (0, 15, 36)),
     *(("draw", number) for number in (0, 23, 31, 32, 33)),
     *(("draw with a reseed", number) for number in (0, 33)),
     *(("draw of some tries", number) for number in (0, 33)),
@@ -113,8 +114,9 @@ def unseeded(maker):
     yield from (script.draw(0, n, 1) for n in BOUNDS)
     yield from (script.draw(0, 10, tries) for tries in TRIES)
     yield from bound_lists(maker, 0)
-    yield from (script.request(0, 16), script.write(0))
+    yield from (script.request(0, 16), script.write(0), script.update(0, blank_page(0xFF)))
     yield maker.event(0, 1)
+    yield script.update(0, blank_page(0x00))
     yield script.draw(0, 10, 64)
 
 
@@ -126,9 +128,11 @@ def scarce(maker, clock):
 
 
 def timed(maker):
-    """100 and 101 ms after marks at which the clock wraps, or nearly; a draw or a shuffle makes the reseed."""
+    """100 and 101 ms after marks at which the clock wraps, or nearly; a draw or a shuffle makes the reseed, and not the
+    update from a blank page before them, with the reseed due."""
     for mark in (2**31, 2**32 - 101, 500, 2**32 - 100, 1000, 2**32 - 1):
         yield from [*maker.filling(64), script.draw(mark, 1000, 64), *maker.filling(64)]
+        yield script.update(mark + 101, blank_page(0x5A))
         yield from (script.draw(mark + 100, 1000, 64), script.shuffle(mark + 101, maker.numbers(5)))
         yield from [*maker.filling(64), script.shuffle(mark + 201, maker.numbers(4)), script.draw(mark + 202, 3, 64)]
 
@@ -156,7 +160,7 @@ def counting(maker, clock):
         clock += 303
         yield from (counted, script.shuffle(clock, ()), script.shuffle(clock, (7,)), maker.event(1, 5))
         yield from (script.event(1, 32, b"\x5a"), script.request(clock, MAX_REQUEST + 1), script.update(clock, b""))
-        yield from (script.draw(clock, 0, 1), script.shuffle(clock, (7, 7)))
+        yield from (script.draw(clock, 0, 1), script.shuffle(clock, (7, 7)), script.update(clock, blank_page(0xFF)))
     yield script.counted(MOST_TOLD)
     yield from [script.draw(clock, 2**31 + 1, 1)] * 16  # 33 about every other time
 

@@ -4,9 +4,9 @@
     tests/c_interface/states_fuzz.py PROGRAM [--seconds S] [--seed N]
 
 PROGRAM is tests/c_interface/states.c linked with the library, which says how a line is laid out. States and arguments
-are biased to the boundaries of every number. Prints how often each number occurred, and what became of the requests on
-the key. Exits 1 where an answer differs, with the line that shows it, or where a number, a clause of 21 or a way of
-counting requests never occurred. The same seed gives the same calls."""
+are biased to the boundaries of every number. Prints how often each number occurred, what became of the requests on the
+key, and what blank seeds met. Exits 1 where an answer differs, with the line that shows it, or where a number, a clause
+of 21, a way of counting requests or of meeting a blank seed never occurred. The same seed gives the same calls."""
 import argparse
 import random
 import subprocess
@@ -14,11 +14,13 @@ import sys
 import time
 from collections import Counter
 from dataclasses import dataclass
+from itertools import product
 from pathlib import Path
 
 sys.path.append(str(Path(__file__).resolve().parents[1] / "independent"))
 
 import station
+from frames import blank_page, nearly_blank
 from generator import MAX_COUNT, MAX_REQUEST, block_count
 from sha256 import INITIAL
 from station import EMPTY, FRESH, MAX_KEY_REQUESTS, MAX_POOL, POOLS, SEED_SIZE, Pool, State
@@ -27,7 +29,7 @@ KINDS = ("event", "request", "update", "write", "draw", "shuffle")
 NUMBERS = {
     "event": (0, 11, 12, 13, 21, 22),
     "request": (0, 14, 21, 23, 24),
-    "update": (0, 15, 21, 24),
+    "update": (0, 15, 36, 21, 24),
     "write": (0, 15, 21, 23, 24),
     "draw": (0, 21, 23, 24, 31, 32, 33),
     "shuffle": (0, 21, 23, 24, 31),
@@ -201,6 +203,23 @@ def bad_seed(r, case):
     case.buffer = r.randbytes(r.choice((0, 32, 63, 65, 128)))
 
 
+def any_byte(r):
+    """What a page was seen to hold, or any other byte."""
+    return r.choice((0x00, 0xFF, r.randrange(256)))
+
+
+def blank_seed(r, case):
+    case.buffer = blank_page(any_byte(r))
+
+
+def nearly_blank_seed(r, case):
+    case.buffer = nearly_blank(any_byte(r), r.choice((0, 63, r.randrange(64))))
+
+
+def equal_bad_seed(r, case):
+    case.buffer = bytes([any_byte(r)]) * r.choice((63, 65))
+
+
 def bad_below(r, case):
     case.n = r.choice((0, 2**32 + 1, 2**33, 2**64 - 1, r.randrange(2**32 + 1, 2**64)))
 
@@ -305,6 +324,10 @@ def counter_at_end(r, case):
     case.change(count=min(count, MAX_COUNT))
 
 
+def spent(r, case):
+    case.change(count=MAX_COUNT - case.growth() + 1)
+
+
 def nearly_stopped(r, case):
     """Requests that bring the number of requests on the key to its end or near it; draws and shuffles make several."""
     case.change(key_requests=MAX_KEY_REQUESTS - r.choice((0, 1, 2, 3, 5, 64)))
@@ -318,11 +341,12 @@ POOL_CLAUSES = [pool_too_long, dirty_tail, stray_chain]
 SEED_CLAUSES = [key_without_counter, flag_without_counter, requests_without_counter]
 MALFORMED = POOL_CLAUSES + SEED_CLAUSES + [timer_without_flag, rubbish]
 OUTPUT = [unseeded, nearly_due, much_used, counter_at_end, nearly_stopped]
+SEEDS = [blank_seed, nearly_blank_seed, equal_bad_seed]
 TWISTS = {
     "event": [as_it_is, bad_source, bad_pool, bad_data, little_room, unseeded] + MALFORMED,
     "request": [as_it_is, bad_request] + MALFORMED + OUTPUT,
-    "update": [as_it_is, bad_seed] + MALFORMED + OUTPUT,
-    "write": [as_it_is, bad_seed] + MALFORMED + OUTPUT,
+    "update": [as_it_is, bad_seed] + SEEDS + MALFORMED + OUTPUT,
+    "write": [as_it_is, bad_seed] + SEEDS + MALFORMED + OUTPUT,
     "draw": [as_it_is, bad_below, bad_tries] + MALFORMED + OUTPUT,
     "shuffle": [as_it_is, long_list, repeat_in_list] + MALFORMED + OUTPUT,
 }
@@ -375,11 +399,27 @@ def pool_cases(r):
                 yield case
 
 
+def blank_cases(r):
+    """Updates from blank pages, nearly blank ones and equal bytes that are not 64, and writes over them, on states of all
+    kinds; then an update from a page of each byte, and one with another byte at each place."""
+    states = (as_it_is, unseeded, much_used, spent, *MALFORMED)
+    for kind, state, page in 4 * [*product(("update", "write"), states, SEEDS)]:
+        case = any_case(r, kind)
+        state(r, case)
+        page(r, case)
+        yield case
+    seeded = FRESH._replace(key=r.randbytes(32), count=1)
+    pages = [blank_page(byte) for byte in range(256)]
+    pages += [nearly_blank(byte, place) for place in range(64) for byte in (0x00, 0xFF)]
+    yield from (Case("update", seeded, buffer=page) for page in pages)
+
+
 def fixed_cases(r):
     for kind in KINDS:
         yield Case(kind, FRESH, buffer=buffer_for(r, kind))
     yield from counted_cases(r)
     yield from pool_cases(r)
+    yield from blank_cases(r)
     for largest in largest_cases(r):
         yield largest
         for beyond in (0, 1):
@@ -412,15 +452,44 @@ def way_counted(outcome):
     return "stopped" if outcome.next.key_requests == MAX_KEY_REQUESTS else "gone on"
 
 
+BLANK = (
+    *("15 before 36", "36 before 21", "36 before 24", "36 alone", "36, a reseed due", "36, unseeded", "nearly blank 0"),
+    *(f"write over equal bytes {n}" for n in NUMBERS["write"]),
+)
+
+
+def ways_of_blank(case, outcome):
+    """What a blank seed met, or one that is nearly so: of an update the number that would have come next."""
+    equal = max(Counter(case.buffer).values(), default=0)
+    if case.kind == "write" and equal == len(case.buffer) > 0:
+        yield f"write over equal bytes {outcome.number}"
+    if case.kind != "update" or equal < 63:
+        return
+    if outcome.number == 15 and equal == len(case.buffer):
+        yield "15 before 36"
+    if outcome.number == 0:
+        yield "nearly blank 0"
+    if outcome.number != 36:
+        return
+    behind = station.update(case.state, case.clock, nearly_blank(case.buffer[0], 0))
+    yield f"36 before {behind.number}" if behind.number else "36 alone"
+    if case.state.count == 0:
+        yield "36, unseeded"
+    if behind.emptied:
+        yield "36, a reseed due"
+
+
 class Tally:
     def __init__(self):
         self.numbers = {kind: Counter() for kind in KINDS}
         self.clauses = Counter({name: 0 for name in station.CLAUSES})
         self.emptied = Counter()
         self.counted = Counter({(kind, way): 0 for kind in KINDS[1:] for way in WAYS})
+        self.blank = Counter({way: 0 for way in BLANK})
 
     def note(self, case, outcome):
         self.numbers[case.kind][outcome.number] += 1
+        self.blank.update(ways_of_blank(case, outcome))
         if case.kind != "event" and outcome.number in (0, 33):
             self.emptied[outcome.emptied] += 1
             self.counted[case.kind, way_counted(outcome)] += 1
@@ -436,6 +505,7 @@ class Tally:
             yield from (f"{kind} {n}" for n in NUMBERS[kind] if not self.numbers[kind][n])
         yield from (f"21 by its clause '{name}' alone" for name, n in self.clauses.items() if n == 0)
         yield from (f"{kind}, requests on the key {way}" for (kind, way), n in self.counted.items() if n == 0)
+        yield from (way for way, n in self.blank.items() if n == 0)
 
     def show(self):
         for kind in KINDS:
@@ -445,6 +515,7 @@ class Tally:
         print("pools emptied:", "  ".join(f"{k}: {n}" for k, n in sorted(self.emptied.items())))
         for way in WAYS:
             print(f"requests on the key {way}:", "  ".join(f"{kind} {self.counted[kind, way]}" for kind in KINDS[1:]))
+        print("blank seeds:", ", ".join(f"{way}: {n}" for way, n in self.blank.items()))
 
 
 def ask(program, line):
