@@ -1,10 +1,10 @@
 #!/usr/bin/env python3
-"""usage: checklist CHECK [--log FILE] [--out DIRECTORY] [--bench PROGRAM] [--header BYTES]
+"""usage: checklist CHECK [--log FILE] [--out DIRECTORY] [--bench PROGRAM] [--header BYTES] [--blank taken|refused]
 
 The year's checks of docs/CHECKLIST.md. CHECK is one of
 
   april      junk in place of a noise source; health tests tell the one that is stuck
-  may        cold start from a stored seed
+  may        cold start from a stored seed, and from a page that was never written
   july       clock set back, then a draw every 50 ms
   october    keys worked out again from the logged calls
   year       all four
@@ -16,6 +16,7 @@ is named at the end. stale needs no bench and leaves no files: it prints what it
   --log FILE          october: a log that a station wrote, in place of a made one; stale: the log, in place of standard
                       input. October goes by the 2010 edition: logbook --compare tells whether the station did
   --header BYTES      stale: the bytes of the source in an event's header, 2, or 1 for a station from before frame 05
+  --blank taken       stale: for a station from before refusal 36, which took an update from a blank seed
   --out DIRECTORY     where logs and answers stay; without it a new temporary directory
   --bench PROGRAM     checks this program; without it the bench of this repository, which is proved and built first.
                       April also takes the static library of this repository, and builds it as bin/health does
@@ -39,8 +40,8 @@ import health_script
 from arguments import Parser
 from building import NotBuilt, bench_program, end_on_signals, health_program
 from cutoffs import usable
-from editions import OneByteLogbook
-from frames import HEADER, Noise, event, log_of, request, update, wide_event, write
+from editions import BlankLogbook, OneByteLogbook
+from frames import HEADER, Noise, blank_page, event, log_of, nearly_blank, request, update, wide_event, write
 from logbook import MOST_TOLD, Event, Logbook, answer, booked, call_of, lines as lines_of
 from program import Failure, compare, run, shortened
 
@@ -247,6 +248,7 @@ POWER_UPS = 12
 KEYS = 6  # at a power-up
 LOST_AFTER_UPDATE = 4
 LOST_BEFORE_STORED = 7
+UNWRITTEN = (0xFF, 0x00)  # what a page that was never written was seen to hold
 
 
 def may_lines(seed, keys):
@@ -264,20 +266,48 @@ def may_name(n):
     return f"may-{n:02}"
 
 
-def power_up(bench, n, seed, keys):
-    """What the update gave, the keys, what the write at the end gave, and all answers; nothing comes before the update."""
-    name = may_name(n)
-    answers = bench.run(name, log_of(may_lines(bytes.fromhex(seed.decode()), keys)))
+class PowerUps:
+    """What the power-ups of May drew: seeds and keys, each with its name, and all answers."""
+
+    def __init__(self, bench, first_seed):
+        self.bench = bench
+        self.names = []
+        self.seeds = [("the workshop", first_seed)]
+        self.keys = []
+        self.answers = []
+
+    def run(self, name, lines):
+        answers = self.bench.run(name, log_of(lines))
+        self.names.append(name)
+        self.answers += answers
+        return answers
+
+    def add_seeds(self, name, call, seeds):
+        self.seeds += [(f"{name}, {call}", seed) for seed in seeds]
+
+    def add_keys(self, name, keys):
+        self.keys += [(f"{name}, key {i}", key) for i, key in enumerate(keys, 1)]
+
+
+def require_answer(name, n, what, found, expected):
+    """The answer to line n of a log."""
+    why = f"expected {shortened(expected)}, found {shortened(found)}"
+    require(found == expected, f"{name}.log, line {n}: {what}: {why}")
+
+
+def power_up(ups, name, seed, keys):
+    """What the update gave, and what the write at the end gave; nothing comes before the update."""
+    answers = ups.run(name, may_lines(bytes.fromhex(seed.decode()), keys))
     for n in (1, 2):
-        found = shortened(answers[n - 1])
-        require(answers[n - 1] == b"23", f"{name}.log, line {n}: a draw before the update: expected '23', found {found}")
+        require_answer(name, n, "a draw before the update", answers[n - 1], b"23")
     successor = drawn(answers[2])
     found = [drawn(reply) for reply in answers[3:] if drawn(reply)]
     what = f"{name}.log, line 3: the update: expected a seed of 64 bytes that differs from the one that went in"
     require(len(successor) == 128 and successor != seed, f"{what}, found {shortened(answers[2])}")
     expected = keys + 1 if keys else 0
     require(len(found) == expected, f"{name}.log: expected {expected} draws after the update, found {len(found)}")
-    return successor, found[:-1], found[-1:], answers
+    ups.add_keys(name, found[:-1])
+    return successor, found[-1:]
 
 
 def require_different(what, values):
@@ -288,32 +318,69 @@ def require_different(what, values):
         names[value] = name
 
 
-def may(bench):
-    print(f"{POWER_UPS} power-ups, each from the seed that the last one stored, with equal readings and noise.")
-    stored = Noise("may's first seed").take(64).hex().upper().encode()
-    seeds, keys, all_answers = [("the workshop", stored)], [], []
+def from_stored_seeds(ups, stored):
     for n in range(1, POWER_UPS + 1):
+        name = may_name(n)
         loses_power = n in (LOST_AFTER_UPDATE, LOST_BEFORE_STORED)
-        successor, found, written, answers = power_up(bench, n, stored, 0 if loses_power else KEYS)
-        all_answers += answers
-        keys += [(f"{may_name(n)}, key {i}", key) for i, key in enumerate(found, 1)]
+        successor, written = power_up(ups, name, stored, 0 if loses_power else KEYS)
         if n == LOST_BEFORE_STORED:
             print(f"Power-up {n}: power lost before the successor was stored; the next one starts from the same seed.")
             continue
         if n == LOST_AFTER_UPDATE:
             print(f"Power-up {n}: power lost after the update; the next one starts from the successor.")
-        seeds += [(f"{may_name(n)}, update", successor), *((f"{may_name(n)}, write", seed) for seed in written)]
+        ups.add_seeds(name, "update", [successor])
+        ups.add_seeds(name, "write", written)
         # every third station is switched off in good order, and stores what the write gave
         stored = written[0] if written and n % 3 == 0 else successor
-    require_different("the seed", seeds)
-    require_different("the key", keys)
-    for name, key in keys:
-        for other, seed in seeds:
+
+
+def unwritten_lines(byte):
+    """A page that was never written, tried again with a pool reseed due by noise; then the first key and a seed."""
+    page = blank_page(byte)
+    yield from (update(0, page), request(0, KEY), write(0))
+    yield from Noise(f"may, a page of {byte:02X}").filling(64)
+    yield from (update(0, page), request(0, KEY), write(0))
+
+
+def from_unwritten_page(ups, byte):
+    """There is no seed, so noise makes the first key; what is then written over the page starts the next power-up."""
+    name = f"may-page-{byte:02x}"
+    answers = ups.run(name, unwritten_lines(byte))
+    update_again, key, seed = answers[-3:]
+    last = len(answers)
+    for n, what, found, expected in (
+        (1, "the update from a blank page", answers[0], b"36"),
+        (2, "a key with no seed", answers[1], b"23"),
+        (3, "a write with no seed", answers[2], b"23"),
+        (last - 2, "the update from a blank page, after noise", update_again, b"36"),
+        (last - 1, "the first key, with the first pool reseed", key[:5], b"00 01"),
+        (last, "the write over a blank page", seed[:5], b"00 00"),
+    ):
+        require_answer(name, n, what, found, expected)
+    ups.add_keys(name, [drawn(key)])
+    ups.add_seeds(name, "write", [drawn(seed)])
+    successor, written = power_up(ups, f"{name}-next", drawn(seed), KEYS)
+    ups.add_seeds(f"{name}-next", "update", [successor])
+    ups.add_seeds(f"{name}-next", "write", written)
+    print(f"Page of {byte:02X}: refused with 36; noise seeds the station, and what it then writes starts the next one.")
+
+
+def may(bench):
+    print(f"{POWER_UPS} power-ups, each from the seed that the last one stored, with equal readings and noise.")
+    stored = Noise("may's first seed").take(64).hex().upper().encode()
+    ups = PowerUps(bench, stored)
+    from_stored_seeds(ups, stored)
+    for byte in UNWRITTEN:
+        from_unwritten_page(ups, byte)
+    require_different("the seed", ups.seeds)
+    require_different("the key", ups.keys)
+    for name, key in ups.keys:
+        for other, seed in ups.seeds:
             require(key not in seed, f"the key of {name} is part of the seed of {other}")
-    for n in range(1, POWER_UPS + 1):
-        bench.work_out_again(may_name(n))
-    print(f"{len(keys)} keys and {len(seeds)} seeds, no two equal; before each update draws were refused with 23;")
-    print(f"{came_due(all_answers)} came due.")
+    for name in ups.names:
+        bench.work_out_again(name)
+    print(f"{len(ups.keys)} keys and {len(ups.seeds)} seeds, no two equal; draws were refused with 23 until a seed was")
+    print(f"taken or noise had come in; {came_due(ups.answers)} came due.")
 
 
 # ---- July: clock set back
@@ -386,7 +453,7 @@ NO_FRAMES = (b"", b"0G", b"0107A", b"010703a1", b"06", b"0107", b"0400000000FF",
 
 
 def refused_lines(noise, time):
-    """A line of each kind that must be refused once the station is seeded: 12, 13, 15, 16. None may leave a trace."""
+    """A line of each kind that is refused once the station is seeded: 12, 13, 15, 16, 36. None may leave a trace."""
     pool, other = noise.below(32), 32 + noise.below(224)
     yield event(7, other, noise.take(16))
     yield wide_event(noise.source(), other, noise.take(32))
@@ -394,7 +461,15 @@ def refused_lines(noise, time):
     yield event(noise.below(256), pool, noise.take(33))
     yield wide_event(noise.source(), 0, noise.take(40))
     yield from (update(time, noise.take(size)) for size in (0, 63, 65))
+    yield from (update(time, blank_page(byte)) for byte in (*UNWRITTEN, noise.below(256)))
+    yield from (update(time, b"\xff" * size) for size in (63, 65))
     yield from NO_FRAMES
+
+
+def october_seed(noise, turn):
+    """64 bytes, which are at every second update equal but for one bit: of the first byte, of the last, or of any."""
+    place = (0, 63, noise.below(64))[turn // 100 % 3]
+    return noise.take(64) if turn % 100 else nearly_blank(noise.below(256), place)
 
 
 def october_lines():
@@ -410,7 +485,7 @@ def october_lines():
             yield refused[turn // 7 % len(refused)]
         time += 20 + noise.below(120)
         if turn % 50 == 0:
-            yield update(time, noise.take(64))
+            yield update(time, october_seed(noise, turn))
         elif turn % 50 == 25:
             yield write(time)
         else:
@@ -495,6 +570,15 @@ def own_programs(names, bench):
         raise Failure(str(why)) from None
 
 
+def stale_book(parser, chosen):
+    """A fresh logbook of the kind that the options tell."""
+    if chosen.header == "1":
+        if chosen.blank == "refused":
+            parser.error("--blank refused goes with --header 2: stations from before frame 05 took a blank seed")
+        return OneByteLogbook()
+    return BlankLogbook() if chosen.blank == "taken" else Logbook()
+
+
 def answer_stale(parser, chosen):
     """The exit status."""
     for name in ("out", "bench"):
@@ -502,7 +586,7 @@ def answer_stale(parser, chosen):
             parser.error(f"--{name} goes with the checks, and stale takes none")
     with parser.opened_or_standard_input(chosen.log) as log:
         try:
-            stale(log, OneByteLogbook() if chosen.header == "1" else Logbook())
+            stale(log, stale_book(parser, chosen))
         except Failure as why:
             parser.exit(1, f"checklist: {why}\n")
     return 0
@@ -515,13 +599,15 @@ def answer_checks(parser):
     parser.add_argument("--out", type=Path)
     parser.add_argument("--bench")
     parser.add_argument("--header", choices=("2", "1"))
+    parser.add_argument("--blank", choices=("taken", "refused"))
     chosen = parser.parse_args()
     if chosen.log is not None and chosen.check not in ("october", "year", "stale"):
         parser.error(f"--log goes with october and stale, and {chosen.check} takes none")
     if chosen.check == "stale":
         return answer_stale(parser, chosen)
-    if chosen.header is not None:
-        parser.error(f"--header goes with stale, and {chosen.check} takes none")
+    for name in ("header", "blank"):
+        if getattr(chosen, name) is not None:
+            parser.error(f"--{name} goes with stale, and {chosen.check} takes none")
     station_log = None
     if chosen.log is not None:
         with parser.opened(chosen.log) as log:

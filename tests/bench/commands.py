@@ -171,18 +171,30 @@ def tells_staleness(folder):
     (folder / "letter.log").write_bytes(b"Dear colleague,\nhere is the log.\n")
     tell([checklist, "stale", "--log", "letter.log"], folder, 1, "no line of this log is a frame")
     tell([checklist, "may", "--header", "1"], folder, 2, "--header goes with stale, and may takes none")
+    tell([checklist, "may", "--blank", "taken"], folder, 2, "--blank goes with stale, and may takes none")
+    words = [checklist, "stale", "--log", "letter.log", "--header", "1", "--blank", "refused"]
+    tell(words, folder, 2, "--blank refused goes with --header 2")
 
 
-def tells_staleness_by_header(folder):
-    """64 bytes of pool 0 with a source of two bytes are 62 with one: then no pool reseed is due."""
-    lines = [update(0, bytes(range(64))), event(7, 0, bytes(29)), event(8, 0, bytes(29)), request(5, 0), request(6, 0)]
-    (folder / "header.log").write_bytes(log_of(lines))
-    for words, expected in (
-        ([], "requests on the key since the last pool reseed: 2"),
-        (["--header", "2"], "requests on the key since the last pool reseed: 2"),
-        (["--header", "1"], "requests on the key since the fresh start: 3"),
+def tells_staleness_by_kind(folder):
+    """64 bytes of pool 0 with a source of two bytes are 62 with one: then no pool reseed is due. A blank seed that is
+    refused is no request, and no seed."""
+    page = bytes(range(64))
+    by_header = [update(0, page), event(7, 0, bytes(29)), event(8, 0, bytes(29)), request(5, 0), request(6, 0)]
+    blank = [update(0, b"\xff" * 64), request(5, 0)]
+    since, start = "requests on the key since the last pool reseed", "requests on the key since the fresh start"
+    for lines, words, expected in (
+        (by_header, [], f"{since}: 2"),
+        (by_header, ["--header", "2"], f"{since}: 2"),
+        (by_header, ["--header", "1"], f"{start}: 3"),
+        (blank, [], f"{start}: 0; not seeded: there is no key yet"),
+        (blank, ["--blank", "refused"], f"{start}: 0; not seeded: there is no key yet"),
+        (blank, ["--blank", "taken"], f"{start}: 2"),
+        (blank, ["--header", "1"], f"{start}: 2"),
+        (blank, ["--header", "1", "--blank", "taken"], f"{start}: 2"),
     ):
-        found = tell([str(ROOT / "bin" / "checklist"), "stale", "--log", "header.log", *words], folder, 0, None)
+        (folder / "some.log").write_bytes(log_of(lines))
+        found = tell([str(ROOT / "bin" / "checklist"), "stale", "--log", "some.log", *words], folder, 0, None)
         if found.splitlines()[-1] != expected:
             raise Failure(f"stale {words}: expected '{expected}', found: {found}")
 
@@ -338,7 +350,7 @@ def says_where_it_was_cut_off(folder):
 
 
 CHECKS = (
-    *(helps, refuses, answers, failing_streams, at_once, no_pass, tells_staleness, tells_staleness_by_header),
+    *(helps, refuses, answers, failing_streams, at_once, no_pass, tells_staleness, tells_staleness_by_kind),
     *(refuses_editions, works_out_editions, tells_editions, says_where_it_was_cut_off),
 )
 

@@ -1,7 +1,8 @@
 #!/usr/bin/env python3
 """Shows that October's made log (tests/bench/checklist.py) tells wrong benches from the right one; those with a wrong
 block of zeros (02, v) are told by a stored log too. What no bench can show, the readings tell. April tells wrong health
-tests (02, vi) from the right ones.
+tests (02, vi) from the right ones. Benches that go wrong at a blank seed (02, vii) are told by May or October, and by
+the stored log of blank flash.
 
     tests/bench/wrong_benches.py      a line for each wrong one; exits 1 where one gives the right answers
 
@@ -23,7 +24,8 @@ import logbook
 import readings
 import station
 from bench_runs import stored
-from checklist import SOURCES, Bench, april, april_health, april_lines, october, october_lines
+from checklist import SOURCES, Bench, april, april_health, april_lines, may, october, october_lines
+from editions import BlankLogbook
 from frames import log_of
 from generator import State, sha_d256
 from health import Health
@@ -199,6 +201,116 @@ def failing_reading(patch):
     return None
 
 
+# ---- blank seeds
+
+
+class WrongBlank(BlankLogbook):
+    """Refuses by 36 what a function says of the 64 bytes."""
+
+    def __init__(self, blank):
+        super().__init__()
+        self.blank = blank
+
+    def update_refusal(self, clock, seed):
+        return super().update_refusal(clock, seed) or (36 if self.blank(seed) else 0)
+
+
+def one_value(seed):
+    return len(set(seed)) == 1
+
+
+WRONG_BLANK = {
+    "takes a blank seed": lambda seed: False,
+    "refuses only a page of FF": lambda seed: seed == b"\xff" * 64,
+    "refuses only a page of 00": lambda seed: seed == bytes(64),
+    "refuses only pages of FF and of 00": lambda seed: seed in (bytes(64), b"\xff" * 64),
+    "compares the first 63 bytes": lambda seed: one_value(seed[:63]),
+    "compares the last 63 bytes": lambda seed: one_value(seed[1:]),
+    "compares the first byte with the last": lambda seed: one_value(seed[::63]),
+    "compares bytes without their top bit": lambda seed: one_value(byte % 128 for byte in seed),
+    "refuses 63 equal bytes wherever the other is": lambda seed: max(map(seed.count, seed)) >= 63,
+}
+WRONG_WORDS = {  # pages that neither May nor October has
+    "compares every second byte": lambda seed: one_value(seed[::2]),
+    "compares words of 8 bytes": lambda seed: seed == seed[:8] * 8,
+    "compares the halves": lambda seed: seed[:32] == seed[32:],
+}
+
+
+class BlankBeforeLength(Logbook):
+    """refuses equal bytes by 36, however many"""
+
+    def update_refusal(self, clock, seed):
+        return 36 if one_value(seed) else super().update_refusal(clock, seed)
+
+
+class UnseededBeforeBlank(Logbook):
+    """refuses a blank seed by 23 before it has another"""
+
+    def update_refusal(self, clock, seed):
+        refusal = super().update_refusal(clock, seed)
+        return self.output_refusal(clock, 6) or refusal if refusal == 36 else refusal
+
+
+class RefusesWrites(Logbook):
+    """refuses a write over a blank page"""
+
+    def write_refusal(self, clock, seed):
+        return super().write_refusal(clock, seed) or (36 if one_value(seed) else 0)
+
+
+class LeavesTrace(Logbook):
+    """Refuses a blank seed, but not before `trace` has been left."""
+
+    def update(self, clock, seed):
+        answer = super().update(clock, seed)
+        if answer[0] == 36:
+            self.trace(clock, seed)
+        return answer
+
+
+class ReseedsByBlank(LeavesTrace):
+    """reseeds the generator by a blank seed that it refuses"""
+
+    def trace(self, clock, seed):
+        self.reseed_generator(seed)
+
+
+class ReseedsAtBlank(LeavesTrace):
+    """makes the pool reseed that is due at a blank seed that it refuses"""
+
+    def trace(self, clock, seed):
+        if self.due(clock):
+            self.pool_reseed(clock)
+
+
+class MovesMarkAtBlank(LeavesTrace):
+    """moves the mark at a blank seed that it refuses"""
+
+    def trace(self, clock, seed):
+        self.mark = clock
+
+
+class DrawsAtBlank(LeavesTrace):
+    """draws a successor for a blank seed that it refuses"""
+
+    def trace(self, clock, seed):
+        if self.generator.count:
+            self.output(clock, len(seed))
+
+
+WRONG_AT_BLANK = (
+    *(BlankBeforeLength, UnseededBeforeBlank, RefusesWrites),
+    *(ReseedsByBlank, ReseedsAtBlank, MovesMarkAtBlank, DrawsAtBlank),
+)
+
+
+def wrong_at_blank():
+    """What is wrong, and what makes such a bench; May or October must tell it."""
+    yield from ((text, partial(WrongBlank, blank)) for text, blank in WRONG_BLANK.items())
+    yield from ((wrong.__doc__, wrong) for wrong in WRONG_AT_BLANK)
+
+
 # ---- health tests
 
 
@@ -294,9 +406,9 @@ def verdict(check, *arguments):
     return None
 
 
-def stored_place(wrong):
+def stored_place(wrong, names=tuple(LOGS)):
     """The first place in a stored log that tells a wrong bench; None where no log does."""
-    for name in LOGS:
+    for name in names:
         log, right = stored(name)
         line = first_difference(log, right.splitlines(keepends=True), wrong)
         if line:
@@ -304,7 +416,7 @@ def stored_place(wrong):
     return None
 
 
-def places():
+def places(directory):
     """What is wrong, and the places that tell it, each None where it should and does not."""
     log = log_of(october_lines())
     right = list(logbook.answers(io.BytesIO(log)))
@@ -320,6 +432,11 @@ def places():
     for text, patch in wrong_limits():
         reading = failing_reading(patch)
         yield f"a station that {text}", [reading and f"reading '{reading}'"]
+    for text, wrong in wrong_at_blank():
+        why = verdict(may, PlayedBench(wrong, directory))
+        yield f"a bench that {text}", [f"May: {why}" if why else october_place(wrong), stored_place(wrong, ["flash"])]
+    for text, blank in WRONG_WORDS.items():
+        yield f"a bench that {text}", [stored_place(partial(WrongBlank, blank), ["flash"])]
 
 
 def health_places(directory):
@@ -333,6 +450,9 @@ def right_ones(directory):
     """What the checks say of right benches and of right health tests, where they fail one."""
     for book in (Logbook, partial(WrongD, sha_d256, sha_d256)):
         yield verdict(october, PlayedBench(book, directory))
+    for book in (Logbook, partial(WrongBlank, one_value)):
+        yield verdict(may, PlayedBench(book, directory))
+        yield stored_place(book, ["flash"])
     yield verdict(april_health, PlayedBench(Logbook, directory, health=Health), list(april_lines(SOURCES)))
 
 
@@ -340,7 +460,7 @@ def main():
     failed = False
     with tempfile.TemporaryDirectory() as folder:
         directory = Path(folder)
-        for text, found in (*places(), *health_places(directory)):
+        for text, found in (*places(directory), *health_places(directory)):
             failed |= None in found
             print(f"{'FAIL' if None in found else 'pass'}  {text}: {'; '.join(place or 'not told' for place in found)}")
         good = [why for why in right_ones(directory) if why]
