@@ -362,7 +362,7 @@ def from_unwritten_page(ups, byte):
     successor, written = power_up(ups, f"{name}-next", drawn(seed), KEYS)
     ups.add_seeds(f"{name}-next", "update", [successor])
     ups.add_seeds(f"{name}-next", "write", written)
-    print(f"Page of {byte:02X}: refused with 36; noise seeds the station, and what it then writes starts the next one.")
+    print(f"Page of {byte:02X}: refused with 36; noise seeds the station, and its write starts the next power-up.")
 
 
 def may(bench):
@@ -584,9 +584,10 @@ def answer_stale(parser, chosen):
     for name in ("out", "bench"):
         if getattr(chosen, name) is not None:
             parser.error(f"--{name} goes with the checks, and stale takes none")
+    book = stale_book(parser, chosen)
     with parser.opened_or_standard_input(chosen.log) as log:
         try:
-            stale(log, stale_book(parser, chosen))
+            stale(log, book)
         except Failure as why:
             parser.exit(1, f"checklist: {why}\n")
     return 0

@@ -339,6 +339,31 @@ def tells_editions(folder):
             raise Failure(f"--compare, {log[:40]}, {answered[:40]}: expected '{expected}', found: {found}")
 
 
+def written_command(start):
+    """The command of docs/CHECKLIST.md that begins like this."""
+    lines = (ROOT / "docs" / "CHECKLIST.md").read_text().splitlines()
+    found = [line.strip() for line in lines if line.startswith(f"    {start}")]
+    if len(found) != 1:
+        raise Failure(f"docs/CHECKLIST.md has {len(found)} commands that begin with '{start}'")
+    return found[0]
+
+
+def finds_blank_seeds(folder):
+    """The commands of docs/CHECKLIST.md that find blank seeds in a log, and the first pool reseed."""
+    pages = [update(0, bytes([byte]) * 64) for byte in (0x00, 0xFF, 0x5A)]
+    others = [b"\xff\0", update(0, b"\xff" * 63), update(0, b"\xff" * 65), update(0, b"\xff" * 63 + b"\xfe")]
+    others += [update(0, b"\x12\x34" * 32), update(0, bytes(range(64))), write(0), event(7, 3, b"\xff" * 32)]
+    filling = [event(7, 0, bytes(29)), event(900, 0, bytes(29))]
+    lines = [*others, *pages, request(0, 16), *filling, request(0, 0), pages[0]]
+    (folder / "LOG").write_bytes(log_of(lines))
+    (folder / "bin").symlink_to(ROOT / "bin")
+    blank = [n for n, line in enumerate(lines, 1) if line in pages]
+    for start, numbers in (("grep -anE '^03", blank), ("bin/logbook --blank taken LOG |", [len(lines) - 1])):
+        found = tell(["sh", "-c", written_command(start)], folder, 0, None)
+        if [int(line.split(":")[0]) for line in found.splitlines()] != numbers:
+            raise Failure(f"{start}: expected lines {numbers}, found: {found}")
+
+
 def says_where_it_was_cut_off(folder):
     """A full disk is no verdict, and no standard output is none."""
     logbook = str(ROOT / "bin" / "logbook")
@@ -351,7 +376,7 @@ def says_where_it_was_cut_off(folder):
 
 CHECKS = (
     *(helps, refuses, answers, failing_streams, at_once, no_pass, tells_staleness, tells_staleness_by_kind),
-    *(refuses_editions, works_out_editions, tells_editions, says_where_it_was_cut_off),
+    *(refuses_editions, works_out_editions, tells_editions, finds_blank_seeds, says_where_it_was_cut_off),
 )
 
 
