@@ -66,7 +66,8 @@ static void blank_updates(const given *g)
         uint8_t page[SEED], before[SEED];
         memset(page, (int)byte, SEED);
         memcpy(before, page, SEED);
-        check(answers(fortuna_update(&state, READING, page, SEED), 36, 0), "an update from a blank page", g->name, byte);
+        fortuna_answer a = fortuna_update(&state, READING, page, SEED);
+        check(answers(a, 36, 0), "an update from a blank page", g->name, byte);
         check(memcmp(page, before, SEED) == 0, "the page after a refused update", g->name, byte);
         check(same_state(&state, &g->state), "the state after a refused update", g->name, byte);
     }
@@ -102,6 +103,7 @@ static void wrong_lengths(const given *g)
 /* What a write gives is the same over every page. */
 static void writes(const given *g)
 {
+    const bool taken = g->write == FORTUNA_DONE;
     uint8_t first[SEED];
     for (unsigned byte = 0; byte < BYTES; byte++) {
         fortuna_state state = g->state;
@@ -109,13 +111,13 @@ static void writes(const given *g)
         memset(page, (int)byte, SEED);
         memcpy(before, page, SEED);
         fortuna_answer a = fortuna_write(&state, READING, page, SEED);
-        check(answers(a, g->write, g->write == FORTUNA_DONE ? g->emptied : 0), "a write over a blank page", g->name, byte);
+        check(answers(a, g->write, taken ? g->emptied : 0), "a write over a blank page", g->name, byte);
         if (byte == 0)
             memcpy(first, page, SEED);
-        const uint8_t *expected = g->write == FORTUNA_DONE ? first : before;
-        check(memcmp(page, expected, SEED) == 0, "the page after a write", g->name, byte);
+        check(memcmp(page, taken ? first : before, SEED) == 0, "the page after a write", g->name, byte);
+        check(same_state(&state, &g->state) != taken, "the state after a write", g->name, byte);
     }
-    check(g->write != FORTUNA_DONE || memcmp(first, first + 1, SEED - 1) != 0, "what a write gives", g->name, 0);
+    check(!taken || memcmp(first, first + 1, SEED - 1) != 0, "what a write gives", g->name, 0);
 }
 
 /* A digitiser fresh from the works: no seed, so noise; what is then written over the page is the next start's seed. */

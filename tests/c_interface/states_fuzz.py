@@ -400,8 +400,8 @@ def pool_cases(r):
 
 
 def blank_cases(r):
-    """Updates from blank pages, nearly blank ones and equal bytes that are not 64, and writes over them, on states of all
-    kinds; then an update from a page of each byte, and one with another byte at each place."""
+    """Updates from blank pages, nearly blank ones and equal bytes that are not 64, and writes over them, on states of
+    all kinds; then an update from a page of each byte, and one with another byte at each place."""
     states = (as_it_is, unseeded, much_used, spent, *MALFORMED)
     for kind, state, page in 4 * [*product(("update", "write"), states, SEEDS)]:
         case = any_case(r, kind)

@@ -282,8 +282,8 @@ def malformed_states():
 
 
 def on_malformed(seed):
-    """The answers to an update on each malformed state, as a set: number, pools emptied, buffer, and whether the state is
-    left as it was."""
+    """The answers to an update on each malformed state, as a set: number, pools emptied, buffer, and whether the state
+    is left as it was."""
     answers = set()
     for name, state in malformed_states():
         assert station.clauses(state) == [name], name
