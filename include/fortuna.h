@@ -84,6 +84,9 @@ enum {
     FORTUNA_SLOT_RANGE = 31,
     /* a draw: tries outside 1 to 64 */
     FORTUNA_TRY_RANGE = 32,
+    /* a seed update: a blank seed, which is 64 equal bytes, whatever the byte, as a page of flash memory that was never
+       written. fortuna_update says what to do then */
+    FORTUNA_BLANK_SEED = 36,
     /* a malformed state, which no run of calls leaves: a pool length above 2^61 - 65; a byte after a pool's tail that
        is not 0; a pool below 64 bytes whose chain is not the empty pool's, which stands at fortuna_pool; counter 0 with
        a key that is not all zero; counter 0 with reseeded set; reseeded clear with a last_reseed or a reseed_count that
@@ -248,10 +251,18 @@ fortuna_answer fortuna_request(fortuna_state *state, uint32_t clock, uint8_t *ou
 
 /* The 64 bytes at seed reseed the generator; then a request for 64 bytes overwrites them with the seed of the next
    start. Store that before any byte is drawn: after a power loss the old seed would give the same bytes again.
-   FORTUNA_DONE, FORTUNA_BAD_SEED, FORTUNA_MALFORMED or FORTUNA_COUNTER_SPENT. */
+
+   FORTUNA_BLANK_SEED: the page that the 64 bytes came from was never written, or was erased, so there is no seed. Give
+   events until a request is accepted, then call fortuna_write over the page and store it. Requests are accepted once
+   pool 0 has 64 bytes, and the first pool reseed takes pool 0 alone. What its noise is worth no call can tell: wait for
+   as much as a key needs by the estimate of your sources, as power_up in examples/c/station.c does. The number says
+   nothing about a key in use: a station that is seeded already goes on.
+
+   FORTUNA_DONE, FORTUNA_BAD_SEED, FORTUNA_BLANK_SEED, FORTUNA_MALFORMED or FORTUNA_COUNTER_SPENT. */
 fortuna_answer fortuna_update(fortuna_state *state, uint32_t clock, uint8_t *seed, size_t length);
 
-/* A request for 64 bytes overwrites the 64 bytes at seed, for the next start.
+/* A request for 64 bytes overwrites the 64 bytes at seed, for the next start. Any bytes may stand there before: a blank
+   page is written over as any other.
    FORTUNA_DONE, FORTUNA_BAD_SEED, FORTUNA_MALFORMED, FORTUNA_UNSEEDED or FORTUNA_COUNTER_SPENT. */
 fortuna_answer fortuna_write(fortuna_state *state, uint32_t clock, uint8_t *seed, size_t length);
 
