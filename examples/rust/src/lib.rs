@@ -22,6 +22,7 @@ pub enum Refusal {
     NoneDrawn = 33,
     CutoffRange = 34,
     MalformedHealth = 35,
+    BlankSeed = 36,
 }
 
 impl Refusal {
@@ -42,6 +43,7 @@ impl Refusal {
             33 => Refusal::NoneDrawn,
             34 => Refusal::CutoffRange,
             35 => Refusal::MalformedHealth,
+            36 => Refusal::BlankSeed,
             _ => unreachable!("the header has no number {number} for these calls"),
         }
     }
@@ -65,6 +67,7 @@ impl Refusal {
             Refusal::NoneDrawn => "no try gave a value",
             Refusal::CutoffRange => "a cutoff outside 2 to 512",
             Refusal::MalformedHealth => "a malformed test state",
+            Refusal::BlankSeed => "a blank seed: 64 equal bytes",
         }
     }
 }
@@ -267,11 +270,15 @@ impl Fortuna {
     }
 
     /// The seed goes in, and its successor stands in its place. Store that before anything is drawn.
+    ///
+    /// `BlankSeed` tells that there is no seed: 64 equal bytes, as a page of flash memory that was never written. Give
+    /// events until a request is accepted, then `write` over the page and store it. `power_up` in src/main.rs does this,
+    /// and the header says how much noise to wait for. The refusal says nothing about a key in use.
     pub fn update(&mut self, clock: u32, seed: &mut [u8; 64]) -> Result<u32, Refusal> {
         result(unsafe { fortuna_update(&mut self.state, clock, seed.as_mut_ptr(), seed.len()) })
     }
 
-    /// A seed for the next start.
+    /// A seed for the next start, over any bytes: a blank page is written over as any other.
     pub fn write(&mut self, clock: u32, seed: &mut [u8; 64]) -> Result<u32, Refusal> {
         result(unsafe { fortuna_write(&mut self.state, clock, seed.as_mut_ptr(), seed.len()) })
     }
