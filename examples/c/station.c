@@ -1,7 +1,8 @@
 /* A digitiser from start to stop: the stored seed goes in and its successor is stored before any key is drawn, noise is
    tested and goes in as events, link keys, a radio slot and the order of a polling list come out. One source gets
-   stuck: the health tests tell before its stuck readings become an event. Noise, clock and flash page are stand-ins, so
-   each run prints the same.
+   stuck: the health tests tell before its stuck readings become an event. A second digitiser comes fresh from the works:
+   its page of flash memory was never written, so it waits for noise before it has a seed. Noise, clock and flash pages
+   are stand-ins, so each run prints the same.
 
    One call at a time on a state: here the task that runs main owns the state and makes every call. Interrupts only put
    noise into a ring buffer, and the owner takes it from there between its other calls. */
@@ -10,6 +11,7 @@
 #include <stdatomic.h>
 #include <stdio.h>
 #include <stdlib.h>
+#include <string.h>
 
 enum { SOURCES = 3, TURNS = 64, READINGS = 32, POOLS = 32, SEED = 64, KEY = 32, SLOTS = 100, TRIES = 64, STATIONS = 8 };
 enum { RING = 16 }; /* a power of two, so that the counts below may wrap */
@@ -18,6 +20,10 @@ enum { RING = 16 }; /* a power of two, so that the counts below may wrap */
    2^-30: docs/HEALTH.md has these and others. A turn has more readings than the first, so that a source which is stuck
    from a turn's start on is told in that turn. */
 enum { REPETITION = 31, PROPORTION = 325 };
+
+/* The events that pool 0 gets before the first seed of all: 288 readings, which by the same estimate have more bits than
+   the key's 256. The library asks for 64 bytes and can't know what they are worth. */
+enum { FIRST_EVENTS = 9 };
 
 /* A noise source: its number, which may be any up to 65,535, the state of its health tests, and whether it failed. Each
    source has a test state of its own. */
@@ -29,7 +35,7 @@ typedef struct {
 
 static source sources[SOURCES] = {{.number = 1}, {.number = 2}, {.number = 900}};
 
-/* Stands in for the page of flash memory that keeps the seed. */
+/* Stands in for the page of flash memory that keeps the seed, and for the copy of it in memory that calls work on. */
 static uint8_t flash[SEED] = "a seed from the workshop, other bytes for each digitiser";
 
 static const char *reason(uint32_t number)
@@ -51,6 +57,8 @@ static const char *reason(uint32_t number)
         return "a bound outside 1 to 2^32, or a list that is too long or repeats a number";
     case FORTUNA_TRY_RANGE:
         return "tries outside 1 to 64";
+    case FORTUNA_BLANK_SEED:
+        return "a blank seed: 64 equal bytes";
     case FORTUNA_MALFORMED:
         return "a malformed state";
     case FORTUNA_POOL_FULL:
@@ -109,6 +117,7 @@ static uint32_t reading(uint32_t number, uint32_t turn, uint32_t i)
 typedef struct {
     source *from;
     uint32_t turn;
+    uint32_t pool;
     uint32_t readings[READINGS];
 } noise;
 
@@ -117,7 +126,7 @@ static atomic_uint written, taken;
 
 /* Stands in for an interrupt. It leaves the state alone: while a call of the owner runs, an event given here would be
    answered FORTUNA_DONE and lost. Noise that finds the ring full is dropped; more will come. */
-static void interrupt(source *from, uint32_t turn)
+static void interrupt(source *from, uint32_t turn, uint32_t pool)
 {
     const unsigned at = atomic_load_explicit(&written, memory_order_relaxed);
     if (at - atomic_load_explicit(&taken, memory_order_acquire) == RING)
@@ -125,6 +134,7 @@ static void interrupt(source *from, uint32_t turn)
     noise *n = &ring[at % RING];
     n->from = from;
     n->turn = turn;
+    n->pool = pool;
     for (uint32_t i = 0; i < READINGS; i++)
         n->readings[i] = reading(from->number, turn, i);
     atomic_store_explicit(&written, at + 1, memory_order_release);
@@ -153,13 +163,13 @@ static bool healthy(const noise *n)
     return false;
 }
 
-/* What goes in is what was tested: a byte for each reading. Each source goes round the pools by itself. */
+/* What goes in is what was tested: a byte for each reading. */
 static void give_event(fortuna_state *f, const noise *n)
 {
     uint8_t data[READINGS];
     for (size_t i = 0; i < READINGS; i++)
         data[i] = (uint8_t)n->readings[i];
-    must("event", fortuna_event(f, n->from->number, n->turn % POOLS, data, sizeof data));
+    must("event", fortuna_event(f, n->from->number, n->pool, data, sizeof data));
 }
 
 /* The owner tests the noise that waits, gives what passes to the state, and returns how many events that were. */
@@ -178,16 +188,29 @@ static int take_noise(fortuna_state *f)
     return count;
 }
 
+/* At a power-up the tests begin anew. */
+static void start_sources(void)
+{
+    for (size_t i = 0; i < SOURCES; i++) {
+        sources[i].health = fortuna_health_new();
+        sources[i].left_out = false;
+    }
+}
+
+/* Each source gives readings for a pool, once. Returns how many events came of it. */
+static int take_turn(fortuna_state *f, uint32_t turn, uint32_t pool)
+{
+    for (size_t i = 0; i < SOURCES; i++)
+        interrupt(&sources[i], turn, pool);
+    return take_noise(f);
+}
+
+/* Each source goes round the pools by itself. */
 static void gather_noise(fortuna_state *f)
 {
     int count = 0;
-    for (size_t i = 0; i < SOURCES; i++)
-        sources[i].health = fortuna_health_new();
-    for (uint32_t turn = 0; turn < TURNS; turn++) {
-        for (size_t i = 0; i < SOURCES; i++)
-            interrupt(&sources[i], turn);
-        count += take_noise(f);
-    }
+    for (uint32_t turn = 0; turn < TURNS; turn++)
+        count += take_turn(f, turn, turn % POOLS);
     printf("%d events taken\n", count);
 }
 
@@ -202,6 +225,51 @@ static void draw_key(fortuna_state *f, uint32_t clock)
     }
     printf("key at %u ms, pools emptied %u: ", clock, a.emptied);
     print_bytes(key, sizeof key);
+}
+
+/* Stands in for storing the page in flash memory. */
+static void store(const char *what, const uint8_t page[SEED])
+{
+    printf("%s: ", what);
+    print_bytes(page, SEED);
+}
+
+/* A seed for the next start. Whatever the page holds is written over, and it may be blank. */
+static void write_seed(fortuna_state *f, uint32_t clock, uint8_t page[SEED])
+{
+    must("seed write", fortuna_write(f, clock, page, SEED).number);
+    store("seed for the next start", page);
+}
+
+/* Where the page is blank: keys and seed writes are refused until noise has come. The first pool reseed takes pool 0
+   alone, so the first noise goes there. With no source that passes its tests there is no seed, and so no key. */
+static void seed_from_noise(fortuna_state *f, uint32_t clock, uint8_t page[SEED])
+{
+    int count = 0;
+    draw_key(f, clock); /* to show that it is refused */
+    for (uint32_t turn = 0; count < FIRST_EVENTS; turn++)
+        count += take_turn(f, turn, 0);
+    printf("%d events taken\n", count);
+    write_seed(f, clock + 500, page);
+}
+
+/* A power-up, from the page as it was read. After it the station is seeded, and the page that the next one starts from
+   is stored: both before any key is drawn. */
+static void power_up(fortuna_state *f, uint32_t clock, uint8_t page[SEED])
+{
+    start_sources();
+    const uint32_t number = fortuna_update(f, clock, page, SEED).number;
+    switch (number) {
+    case FORTUNA_DONE: /* the page holds the successor of its seed */
+        store("seed updated", page);
+        break;
+    case FORTUNA_BLANK_SEED: /* the page was never written, and is as it was */
+        printf("seed update: refused, %u (%s)\n", number, reason(number));
+        seed_from_noise(f, clock, page);
+        break;
+    default:
+        must("seed update", number);
+    }
 }
 
 /* A pool that there is not: the call says so, and the state stays as it was. */
@@ -263,6 +331,19 @@ static void run_log(void)
     printf("a log's answers:\n%.*s", (int)stored, (const char *)answers);
 }
 
+/* Another digitiser, fresh from the works. Its second power-up finds the seed that the first one left in the page. */
+static void start_twice(void)
+{
+    uint8_t page[SEED];
+    memset(page, 0xff, sizeof page);
+    for (int i = 1; i <= 2; i++) {
+        printf("fresh from the works, power-up %d\n", i);
+        fortuna_state f = fortuna_new();
+        power_up(&f, 10, page);
+        draw_key(&f, 1000);
+    }
+}
+
 int main(void)
 {
     show_edition();
@@ -272,10 +353,7 @@ int main(void)
     fortuna_state f = fortuna_new();
 
     draw_key(&f, 0);
-    must("seed update", fortuna_update(&f, 10, flash, sizeof flash).number);
-    printf("seed updated: ");
-    print_bytes(flash, sizeof flash);
-
+    power_up(&f, 10, flash);
     gather_noise(&f);
     draw_key(&f, 1000);
     draw_key(&f, 1050);
@@ -285,9 +363,8 @@ int main(void)
     order_stations(&f, 1250);
     show_staleness(&f);
 
-    must("seed write", fortuna_write(&f, 2000, flash, sizeof flash).number);
-    printf("seed for the next start: ");
-    print_bytes(flash, sizeof flash);
+    write_seed(&f, 2000, flash);
     run_log();
+    start_twice();
     return 0;
 }

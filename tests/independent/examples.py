@@ -17,6 +17,7 @@ SOURCES = (1, 2, 900)
 TURNS, READINGS = 64, 32
 STUCK_SOURCE, STUCK_TURN = 2, 40
 REPETITION, PROPORTION = 31, 325
+FIRST_TURNS = 3  # of noise for pool 0, where the page was never written
 TESTS = {  # by whether each test fails
     (True, False): "the repetition count test",
     (False, True): "the adaptive proportion test",
@@ -49,8 +50,33 @@ def events(failed):
                 yield source, turn % 32, bytes(readings(source, turn))
 
 
+def given(state, events):
+    """The state after events that are accepted."""
+    for event in events:
+        state = station.event(state, *event).next
+    return state
+
+
 def key_line(clock, outcome):
     return f"key at {clock} ms, pools emptied {outcome.emptied}: {outcome.buffer.hex()}"
+
+
+def works_lines():
+    """Of the digitiser fresh from the works: a power-up with a page of FF, and one with the seed that the first wrote."""
+    yield "fresh from the works, power-up 1"
+    blank = station.update(station.FRESH, 10, b"\xff" * 64)
+    yield f"seed update: refused, {blank.number} (a blank seed: 64 equal bytes)"
+    early = station.request(blank.next, 10, bytes(32))
+    yield f"key at 10 ms: refused, {early.number} (no seed and too little noise)"
+    noise = [(source, 0, bytes(readings(source, turn))) for turn in range(FIRST_TURNS) for source in SOURCES]
+    yield f"{len(noise)} events taken"
+    written = station.write(given(early.next, noise), 510, blank.buffer)
+    yield f"seed for the next start: {written.buffer.hex()}"
+    yield key_line(1000, station.request(written.next, 1000, bytes(32)))
+    yield "fresh from the works, power-up 2"
+    updated = station.update(station.FRESH, 10, written.buffer)
+    yield f"seed updated: {updated.buffer.hex()}"
+    yield key_line(1000, station.request(updated.next, 1000, bytes(32)))
 
 
 def lines():
@@ -63,11 +89,8 @@ def lines():
     for turn, source, place, tests in failed:
         yield f"source {source}, turn {turn}: sample {place} fails {tests}, source left out"
     taken = list(events(failed))
-    state = updated.next
-    for event in taken:
-        state = station.event(state, *event).next
     yield f"{len(taken)} events taken"
-    first = station.request(state, 1000, bytes(32))
+    first = station.request(given(updated.next, taken), 1000, bytes(32))
     yield key_line(1000, first)
     second = station.request(first.next, 1050, bytes(32))
     yield key_line(1050, second)
@@ -82,6 +105,7 @@ def lines():
     yield f"seed for the next start: {station.write(shuffled.next, 2000, updated.buffer).buffer.hex()}"
     yield "a log's answers:"
     yield from (line.decode().rstrip() for line in logbook.answers(io.BytesIO(LOG)))
+    yield from works_lines()
 
 
 def main(args):

@@ -1,7 +1,9 @@
 //! A digitiser from start to stop: the stored seed goes in and its successor is stored before any
 //! key is drawn, noise is tested and goes in as events, link keys, a radio slot and the order of a
 //! polling list come out. One source gets stuck: the health tests tell before its stuck readings
-//! become an event. Noise, clock and flash page are stand-ins, so that each run prints the same.
+//! become an event. A second digitiser comes fresh from the works: its page of flash memory was
+//! never written, so it waits for noise before it has a seed. Noise, clock and flash pages are
+//! stand-ins, so that each run prints the same.
 //!
 //! One call at a time on a state: `main` owns it, and each call borrows it alone. Noise from interrupts or other
 //! threads would come through a queue.
@@ -16,11 +18,14 @@ const READINGS: usize = 32;
 /// from a turn's start on is told in that turn.
 const REPETITION: u32 = 31;
 const PROPORTION: u32 = 325;
+/// The events that pool 0 gets before the first seed of all: 288 readings, which by the same estimate have more bits
+/// than the key's 256. The library asks for 64 bytes and can't know what they are worth.
+const FIRST_EVENTS: u32 = 9;
 const POOLS: u32 = 32;
 const SLOTS: u64 = 100;
 const TRIES: u32 = 64;
 
-/// Stands in for the page of flash memory that keeps the seed.
+/// Stands in for the page of flash memory that keeps the seed, as it is read.
 fn stored_seed() -> [u8; 64] {
     let text = b"a seed from the workshop, other bytes for each digitiser";
     let mut seed = [0; 64];
@@ -74,22 +79,39 @@ fn healthy(source: &mut Source, turn: u32, readings: &[u32]) -> Result<bool, Ref
     }
 }
 
-/// What goes in is what was tested: a byte for each reading. Each source goes round the pools by itself.
-fn gather_noise(f: &mut Fortuna) -> Result<(), Refusal> {
-    let mut sources = SOURCES.map(|number| Source {
+/// At a power-up the tests begin anew.
+fn start_sources() -> [Source; 3] {
+    SOURCES.map(|number| Source {
         number,
         health: Health::new(),
         left_out: false,
-    });
+    })
+}
+
+/// Each source gives readings for a pool, once. What goes in is what was tested: a byte for each reading. Gives how many
+/// events came of it.
+fn take_turn(
+    f: &mut Fortuna,
+    sources: &mut [Source],
+    turn: u32,
+    pool: u32,
+) -> Result<u32, Refusal> {
+    let mut count = 0;
+    for source in sources {
+        let readings = readings(source.number, turn);
+        if healthy(source, turn, &readings)? {
+            f.event(source.number, pool, &readings.map(|r| r as u8))?;
+            count += 1;
+        }
+    }
+    Ok(count)
+}
+
+/// Each source goes round the pools by itself.
+fn gather_noise(f: &mut Fortuna, sources: &mut [Source]) -> Result<(), Refusal> {
     let mut count = 0;
     for turn in 0..TURNS {
-        for source in &mut sources {
-            let readings = readings(source.number, turn);
-            if healthy(source, turn, &readings)? {
-                f.event(source.number, turn % POOLS, &readings.map(|r| r as u8))?;
-                count += 1;
-            }
-        }
+        count += take_turn(f, sources, turn, turn % POOLS)?;
     }
     println!("{count} events taken");
     Ok(())
@@ -104,6 +126,60 @@ fn draw_key(f: &mut Fortuna, clock: u32) {
             hexadecimal(&key)
         ),
         Err(refusal) => println!("key at {clock} ms: {refusal}"),
+    }
+}
+
+/// Stands in for storing the page in flash memory.
+fn store(what: &str, page: &[u8; 64]) {
+    println!("{what}: {}", hexadecimal(page));
+}
+
+/// A seed for the next start. Whatever the page holds is written over, and it may be blank.
+fn write_seed(f: &mut Fortuna, clock: u32, page: &mut [u8; 64]) -> Result<(), Refusal> {
+    f.write(clock, page)?;
+    store("seed for the next start", page);
+    Ok(())
+}
+
+/// Where the page is blank: keys and seed writes are refused until noise has come. The first pool reseed takes pool 0
+/// alone, so the first noise goes there. With no source that passes its tests there is no seed, and so no key.
+fn seed_from_noise(
+    f: &mut Fortuna,
+    sources: &mut [Source],
+    clock: u32,
+    page: &mut [u8; 64],
+) -> Result<(), Refusal> {
+    let (mut turn, mut count) = (0, 0);
+    draw_key(f, clock); // to show that it is refused
+    while count < FIRST_EVENTS {
+        count += take_turn(f, sources, turn, 0)?;
+        turn += 1;
+    }
+    println!("{count} events taken");
+    write_seed(f, clock + 500, page)
+}
+
+/// A power-up, from the page as it was read. After it the station is seeded, and the page that the next one starts from
+/// is stored: both before any key is drawn.
+fn power_up(
+    f: &mut Fortuna,
+    sources: &mut [Source],
+    clock: u32,
+    page: &mut [u8; 64],
+) -> Result<(), Refusal> {
+    match f.update(clock, page) {
+        // the page holds the successor of its seed
+        Ok(_) => {
+            store("seed updated", page);
+            Ok(())
+        }
+        // the page was never written, and is as it was
+        Err(blank @ Refusal::BlankSeed) => {
+            println!("seed update: {blank}");
+            seed_from_noise(f, sources, clock, page)
+        }
+        // a device would go into its fault state
+        Err(refusal) => Err(refusal),
     }
 }
 
@@ -160,18 +236,29 @@ fn replay() {
     );
 }
 
+/// Another digitiser, fresh from the works. Its second power-up finds the seed that the first one left in the page.
+fn start_twice() -> Result<(), Refusal> {
+    let mut page = [0xff; 64];
+    for i in 1..=2 {
+        println!("fresh from the works, power-up {i}");
+        let mut f = Fortuna::new();
+        power_up(&mut f, &mut start_sources(), 10, &mut page)?;
+        draw_key(&mut f, 1000);
+    }
+    Ok(())
+}
+
 fn main() -> Result<(), Refusal> {
     show_edition()?;
 
     // Fresh at each start, with the seed to go on from.
     let mut f = Fortuna::new();
+    let mut sources = start_sources();
     let mut flash = stored_seed();
 
     draw_key(&mut f, 0);
-    f.update(10, &mut flash)?;
-    println!("seed updated: {}", hexadecimal(&flash));
-
-    gather_noise(&mut f)?;
+    power_up(&mut f, &mut sources, 10, &mut flash)?;
+    gather_noise(&mut f, &mut sources)?;
     draw_key(&mut f, 1000);
     draw_key(&mut f, 1050);
     misplace_event(&mut f);
@@ -180,8 +267,7 @@ fn main() -> Result<(), Refusal> {
     order_stations(&mut f, 1250)?;
     show_staleness(&f);
 
-    f.write(2000, &mut flash)?;
-    println!("seed for the next start: {}", hexadecimal(&flash));
+    write_seed(&mut f, 2000, &mut flash)?;
     replay();
-    Ok(())
+    start_twice()
 }
