@@ -30,7 +30,9 @@ static void requests(size_t count, uint8_t *out, size_t length) {
     for (size_t i = 0; i < count; i++) made(call_request(out, length));
 }
 
+/* The first seed has bytes that differ: a blank one would be refused. */
 static void updates(size_t count, uint8_t seed[64]) {
+    for (int i = 0; i < 64; i++) seed[i] = (uint8_t)i;
     for (size_t i = 0; i < count; i++) made(call_update(seed));
 }
 

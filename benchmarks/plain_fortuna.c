@@ -183,6 +183,14 @@ static uint32_t pool_reseed(plain_state *s, uint32_t clock)
     return used;
 }
 
+/* All bytes equal. Every byte is looked at, with no early exit, as the proved library does. */
+static bool blank(const uint8_t seed[PLAIN_SEED])
+{
+    uint8_t difference = 0;
+    for (int i = 1; i < PLAIN_SEED; i++) difference |= seed[i] ^ seed[0];
+    return difference == 0;
+}
+
 /* 21, 23 or 24 of a request; growth is how many blocks it makes. */
 static uint32_t state_refusal(const plain_state *s, uint32_t clock, uint64_t growth)
 {
@@ -228,6 +236,7 @@ uint32_t plain_update(plain_state *s, uint32_t clock, uint8_t *seed, size_t leng
 {
     *emptied = 0;
     if (length != PLAIN_SEED) return 15;
+    if (blank(seed)) return 36;
     if (malformed(s)) return 21;
     if (spent(s, due(s, clock) + 1 + blocks_for(length))) return 24;
     reseed(s, seed, length);

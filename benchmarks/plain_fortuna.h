@@ -33,7 +33,7 @@ typedef struct {
 
 void plain_new(plain_state *s);
 
-/* Each returns 0 or a refusal's number (11 to 15, 21 to 24), and stores the count of pools emptied. After a refusal
+/* Each returns 0 or a refusal's number (11 to 15, 36, 21 to 24), and stores the count of pools emptied. After a refusal
    state and buffer are as before, and the count is 0. */
 uint32_t plain_event(plain_state *s, uint32_t source, uint32_t pool, const uint8_t *data, size_t length);
 uint32_t plain_request(plain_state *s, uint32_t clock, uint8_t *out, size_t length, uint32_t *emptied);
