@@ -62,7 +62,7 @@ def key_line(clock, outcome):
 
 
 def works_lines():
-    """Of the digitiser fresh from the works: a power-up with a page of FF, and one with the seed that the first wrote."""
+    """Of the digitiser fresh from the works: a power-up with a page of FF, and one with the seed written over it."""
     yield "fresh from the works, power-up 1"
     blank = station.update(station.FRESH, 10, b"\xff" * 64)
     yield f"seed update: refused, {blank.number} (a blank seed: 64 equal bytes)"

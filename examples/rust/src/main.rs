@@ -1,7 +1,7 @@
 //! A digitiser from start to stop: the stored seed goes in and its successor is stored before any
 //! key is drawn, noise is tested and goes in as events, link keys, a radio slot and the order of a
 //! polling list come out. One source gets stuck: the health tests tell before its stuck readings
-//! become an event. A second digitiser comes fresh from the works: its page of flash memory was
+//! become an event. Another digitiser is fresh from the works: its page of flash memory was
 //! never written, so it waits for noise before it has a seed. Noise, clock and flash pages are
 //! stand-ins, so that each run prints the same.
 //!
@@ -18,8 +18,8 @@ const READINGS: usize = 32;
 /// from a turn's start on is told in that turn.
 const REPETITION: u32 = 31;
 const PROPORTION: u32 = 325;
-/// The events that pool 0 gets before the first seed of all: 288 readings, which by the same estimate have more bits
-/// than the key's 256. The library asks for 64 bytes and can't know what they are worth.
+/// The events that pool 0 gets before the first seed of all: 288 readings, which by that estimate have more bits than
+/// the key's 256. The library asks for 64 bytes and can't know what they are worth.
 const FIRST_EVENTS: u32 = 9;
 const POOLS: u32 = 32;
 const SLOTS: u64 = 100;
@@ -88,8 +88,8 @@ fn start_sources() -> [Source; 3] {
     })
 }
 
-/// Each source gives readings for a pool, once. What goes in is what was tested: a byte for each reading. Gives how many
-/// events came of it.
+/// Each source gives readings for a pool, once. What goes in is what was tested: a byte for each reading. Gives how
+/// many events came of it.
 fn take_turn(
     f: &mut Fortuna,
     sources: &mut [Source],
