@@ -1,8 +1,8 @@
 /* A digitiser from start to stop: the stored seed goes in and its successor is stored before any key is drawn, noise is
    tested and goes in as events, link keys, a radio slot and the order of a polling list come out. One source gets
-   stuck: the health tests tell before its stuck readings become an event. Another digitiser is fresh from the works: its
-   page of flash memory was never written, so it waits for noise before it has a seed. Noise, clock and flash pages are
-   stand-ins, so each run prints the same.
+   stuck: the health tests tell before its stuck readings become an event. Another digitiser is fresh from the works:
+   its page of flash memory was never written, so it waits for noise before it has a seed. Noise, clock and flash pages
+   are stand-ins, so each run prints the same.
 
    One call at a time on a state: here the task that runs main owns the state and makes every call. Interrupts only put
    noise into a ring buffer, and the owner takes it from there between its other calls. */
@@ -21,8 +21,8 @@ enum { RING = 16 }; /* a power of two, so that the counts below may wrap */
    from a turn's start on is told in that turn. */
 enum { REPETITION = 31, PROPORTION = 325 };
 
-/* The events that pool 0 gets before the first seed of all: 288 readings, which by that estimate have more bits than the
-   key's 256. The library asks for 64 bytes and can't know what they are worth. */
+/* The events that pool 0 gets before the first seed of all: 288 readings, which by that estimate have more bits than
+   the key's 256. The library asks for 64 bytes and can't know what they are worth. */
 enum { FIRST_EVENTS = 9 };
 
 /* A noise source: its number, which may be any up to 65,535, the state of its health tests, and whether it failed. Each
