@@ -47,8 +47,9 @@ then-accepted n = by-test (eqb n 0) (cond (eqb n 0) 0 n ≡ n) (λ t. rw t (sym 
 
 other-number : (m : Bool) (c : ℕ) (d : Bool) (seed : List ℕ) → blank seed ≡ false
     → updateNumber m c d seed ≡ andThen (seedInput seed) (updateState m c d)
-unfolding updateNumber updateInput
-other-number m c d seed h = rw (h, then-accepted (seedInput seed))
+unfolding updateNumber updateInput seedInput andThen
+other-number m c d seed h =
+    by-test (eqb (length seed) seedSize) (updateNumber m c d seed ≡ andThen (seedInput seed) (updateState m c d)) (λ t. rw (t, h)) (λ t. rw t)
 
 not-by-36 : (size malformed spent : Bool) → andThen (refuse size 15 0) (refuse malformed 21 (refuse spent 24 0)) ≢ 36
 unfolding andThen

@@ -141,17 +141,20 @@ BlankRow =
     × (tabulate (λ (b : ℕ). step fresh (update 0 (page b)) .number) 256 ≡ replicate 256 36)
     × (answers fresh (update 0 (replicate 63 0xff) ∷ update 0 (replicate 65 0xff) ∷ []) ≡ 15 ∷ 15 ∷ [])
 
--- another byte at any one place, the first and the last among them, is accepted
+-- another byte at any one place, the first and the last among them, is accepted, and so is a page whose halves are equal
 abbrev pub BlankPlacesRow : Type 0
-BlankPlacesRow = tabulate (λ (i : ℕ). step fresh (update 0 (set (page 0xff) i 0)) .number) 64 ≡ replicate 64 0
+BlankPlacesRow =
+    (tabulate (λ (i : ℕ). step fresh (update 0 (set (page 0xff) i 0)) .number) 64 ≡ replicate 64 0)
+    × (step fresh (update 0 (take 32 firstSeed ++ take 32 firstSeed)) .number ≡ 0)
 
--- 15 before 36, 36 before 21 and before 24, each beside an update of other bytes
+-- 15 before 36, 36 before 21 and before 24, also with a reseed due; each beside an update of other bytes
 abbrev pub BlankOrderRow : Type 0
 BlankOrderRow =
     answers keyedUnseeded (update 0 (replicate 63 0) ∷ update 0 (page 0) ∷ update 0 firstSeed ∷ [])
     ++ answers (seededState (2 ^ 128 - 1)) (update 0 (page 0xff) ∷ update 0 firstSeed ∷ [])
     ++ answers (withTimer 1 (2 ^ 128 - 1) 5 0 false) (update 0 (page 0xff) ∷ update 0 firstSeed ∷ [])
-    ≡ 15 ∷ 36 ∷ 21 ∷ 36 ∷ 24 ∷ 36 ∷ 21 ∷ []
+    ++ answers (withFirstPool fresh (wholeBlocks 64)) (update 0 (page 0xff) ∷ update 0 firstSeed ∷ [])
+    ≡ 15 ∷ 36 ∷ 21 ∷ 36 ∷ 24 ∷ 36 ∷ 21 ∷ 36 ∷ 0 ∷ []
 
 -- a write over such a page is one over any other: 23 where unseeded, accepted where seeded or where a reseed is due
 abbrev pub BlankWriteRow : Type 0

@@ -1,8 +1,10 @@
 /* Every call that works on a key, with the key's bytes marked as unknown to memcheck: it reports each jump, and each
-   address, that they decide. */
+   address, that they decide. As 'calls blank' and 'calls other' it makes one seed update, of a blank page or of
+   other bytes, with the seed's bytes unknown in place of the key's. */
 #include <fortuna.h>
 #include <stdio.h>
 #include <stdlib.h>
+#include <string.h>
 #include <valgrind/memcheck.h>
 
 enum { OUTPUT = 40, SEED = 64, CLOCK = 1000, SLOTS = 900 };
@@ -10,12 +12,17 @@ enum { OUTPUT = 40, SEED = 64, CLOCK = 1000, SLOTS = 900 };
 static uint8_t output[OUTPUT];
 static uint8_t seed[SEED];
 
+static void answered(const char *call, uint32_t number, uint32_t expected)
+{
+    if (number == expected)
+        return;
+    fprintf(stderr, "key_bits: %s: answered %u in place of %u\n", call, number, expected);
+    exit(1);
+}
+
 static void done(const char *call, uint32_t number)
 {
-    if (number == FORTUNA_DONE)
-        return;
-    fprintf(stderr, "key_bits: %s: refused by %u\n", call, number);
-    exit(1);
+    answered(call, number, FORTUNA_DONE);
 }
 
 /* A seeded station whose pool 0 has 64 bytes and more, so that a reseed is due. */
@@ -53,9 +60,26 @@ static void generator_calls(void)
     fortuna_aes256_block(fortuna_aes256_expand(g.key), output);
 }
 
-int main(void)
+/* A seed update by 64 bytes of which only the caller knows what they are. */
+static void update_by(uint8_t step, uint32_t expected)
 {
-    station_calls();
-    generator_calls();
+    fortuna_state s = fortuna_new();
+    for (size_t i = 0; i < SEED; i++)
+        seed[i] = (uint8_t)(0xff + step * i);
+    VALGRIND_MAKE_MEM_UNDEFINED(seed, SEED);
+    answered("update by an unknown seed", fortuna_update(&s, 0, seed, SEED).number, expected);
+}
+
+int main(int count, char **words)
+{
+    const char *which = count == 2 ? words[1] : "key";
+    if (strcmp(which, "blank") == 0) {
+        update_by(0, FORTUNA_BLANK_SEED);
+    } else if (strcmp(which, "other") == 0) {
+        update_by(1, FORTUNA_DONE);
+    } else {
+        station_calls();
+        generator_calls();
+    }
     return 0;
 }
