@@ -1,6 +1,6 @@
 /* Every call that works on a key, with the key's bytes marked as unknown to memcheck: it reports each jump, and each
-   address, that they decide. As 'calls blank' and 'calls other' it makes one seed update, of a blank page or of
-   other bytes, with the seed's bytes unknown in place of the key's. */
+   address, that they decide. As 'calls blank' and 'calls other' it makes one seed update, by a blank page or by
+   one whose last byte is another, with the seed's bytes unknown in place of the key's. */
 #include <fortuna.h>
 #include <stdio.h>
 #include <stdlib.h>
@@ -60,12 +60,12 @@ static void generator_calls(void)
     fortuna_aes256_block(fortuna_aes256_expand(g.key), output);
 }
 
-/* A seed update by 64 bytes of which only the caller knows what they are. */
-static void update_by(uint8_t step, uint32_t expected)
+/* A seed update by a page of FF but for its last byte, all of it unknown to memcheck. */
+static void update_by(uint8_t last, uint32_t expected)
 {
     fortuna_state s = fortuna_new();
-    for (size_t i = 0; i < SEED; i++)
-        seed[i] = (uint8_t)(0xff + step * i);
+    memset(seed, 0xff, SEED);
+    seed[SEED - 1] = last;
     VALGRIND_MAKE_MEM_UNDEFINED(seed, SEED);
     answered("update by an unknown seed", fortuna_update(&s, 0, seed, SEED).number, expected);
 }
@@ -74,9 +74,9 @@ int main(int count, char **words)
 {
     const char *which = count == 2 ? words[1] : "key";
     if (strcmp(which, "blank") == 0) {
-        update_by(0, FORTUNA_BLANK_SEED);
+        update_by(0xff, FORTUNA_BLANK_SEED);
     } else if (strcmp(which, "other") == 0) {
-        update_by(1, FORTUNA_DONE);
+        update_by(0xfe, FORTUNA_DONE);
     } else {
         station_calls();
         generator_calls();
