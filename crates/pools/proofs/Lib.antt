@@ -20,4 +20,5 @@ pub mod Tries
 pub mod EveryTry
 pub mod TriesMade
 pub mod Bounds
+pub mod Blank
 pub mod Slots

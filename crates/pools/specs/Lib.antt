@@ -7,6 +7,7 @@ pub mod Effects
 pub mod Draws
 pub mod Calls
 pub mod Tries
+pub mod Blank
 pub mod Slots
 pub mod Masks
 pub mod Collected

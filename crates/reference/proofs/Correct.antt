@@ -2,6 +2,7 @@
 -- Assumes nothing.
 use mathlib.Core.List.{List}
 use Rattle.pools.specs.Calls.{Call}
+use Rattle.pools.proofs.Blank.{blank-law}
 use Rattle.reference.specs.Correct.{RunCorrect}
 use Rattle.reference.proofs.Agreement.{run-is-steps, agrees}
 use Rattle.reference.proofs.Provenance as Events
@@ -9,7 +10,6 @@ use Rattle.reference.proofs.Timer.{elapsed-law, timer-step}
 use Rattle.reference.proofs.Counters.{no-repeat}
 use Rattle.reference.proofs.Counting.{counted}
 use Rattle.reference.proofs.KeyRequests.{on-one-key}
-use Rattle.reference.proofs.Blank.{blank-law}
 
 pub run-correct : (calls : List Call) → RunCorrect calls
 run-correct calls =

@@ -19,7 +19,6 @@ pub mod Taken
 pub mod Keys
 pub mod Provenance
 pub mod KeyRequests
-pub mod Blank
 pub mod Correct
 pub mod Computing
 pub mod Readings

@@ -4,12 +4,12 @@
 use mathlib.Core.Path.{_≡_}
 use mathlib.Core.List.{List, _∷_, _++_}
 use Rattle.pools.specs.Calls.{Call}
+use Rattle.pools.specs.Blank.{BlankLaw}
 use Rattle.reference.specs.Agreement.{RunIsSteps, Agrees}
 use Rattle.reference.specs.Provenance.{Provenance}
 use Rattle.reference.specs.Timer.{ElapsedLaw, TimerStep}
 use Rattle.reference.specs.Counters.{NoRepeat, counterBlocks, Counted}
 use Rattle.reference.specs.KeyRequests.{OnOneKey}
-use Rattle.reference.specs.Blank.{BlankLaw}
 
 pub record RunCorrect (calls : List Call) : Type 0 where
   -- the run is its calls' steps, one after the other

@@ -3,7 +3,6 @@ pub mod Agreement
 pub mod Timer
 pub mod Counters
 pub mod KeyRequests
-pub mod Blank
 pub mod Provenance
 pub mod Correct
 pub mod Readings

@@ -13,14 +13,14 @@ use Rattle.laws.specs.Lists.{countOf}
 use Rattle.laws.specs.Refusals.{refuse}
 use Rattle.laws.proofs.Cases.{by-test}
 use Rattle.laws.proofs.Lists.{sameList-refl, sameList-equal}
 use Rattle.pools.specs.declared.Fortuna.{Fortuna}
 use Rattle.pools.specs.State.{counterOf, malformed, due}
 use Rattle.pools.specs.Refusals.{andThen, seedSize, spent, seedInput, blank, updateInput, updateState, updateNumber, writeNumber}
 use Rattle.pools.specs.Effects.{unchanged}
 use Rattle.pools.specs.Calls.{Call, event, request, update, write, draw, shuffle, inputBuffer, callNumber, callEffect, callFound, effectOf, outcome, step}
 use Rattle.pools.specs.Promises.{callNumbers}
 use Rattle.pools.proofs.Bounds.{call-numbers}
-use Rattle.reference.specs.Blank.{blankUpdate, BlankLaw}
+use Rattle.pools.specs.Blank.{blankUpdate, BlankLaw}
 
 -- ---- a page is blank exactly if it is 64 times one byte
 
