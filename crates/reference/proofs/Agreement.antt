@@ -44,7 +44,7 @@ module _ (b : Reference) (s : Sound b) where
   by-reading number t x = rw (malformed-concrete b s, counter-concrete b s, due-concrete b t)
 
   pub number-agrees : (c : Call) → callNumber (concrete b) c ≡ referenceNumber b c
-  unfolding callNumber referenceNumber
+  unfolding callNumber referenceNumber updateNumber writeNumber
   number-agrees (event source pool content) = rw (malformed-concrete b s) (event-size false _ _ source pool (length content) (size-concrete b pool))
   number-agrees (request t buffer) = by-reading requestNumber t (length buffer)
   number-agrees (update t seed) = by-reading updateNumber t seed
@@ -98,7 +98,7 @@ module _ (b : Reference) (s : Sound b) where
   value-agrees (shuffle t list) e = refl
 
   pub effect-agrees : (place : ℕ) (c : Call) → referenceNumber b c ≡ 0 → callEffect (concrete b) c ≡ concreteEffect (referenceEffect place b c)
-  unfolding referenceNumber callEffect referenceEffect
+  unfolding referenceNumber updateNumber writeNumber callEffect referenceEffect
   effect-agrees place (event source pool content) e =
       unfold concreteEffect in
       λ i. record {
@@ -114,7 +114,7 @@ module _ (b : Reference) (s : Sound b) where
   effect-agrees place (shuffle t list) e = unfold carried in ap (λ (o : Drawn Fortuna). o .effect) (shuffled-agree t list e .0)
 
   pub effect-sound : (place : ℕ) (c : Call) → referenceNumber b c ≡ 0 → Sound (referenceEffect place b c .next)
-  unfolding referenceNumber referenceEffect
+  unfolding referenceNumber updateNumber writeNumber referenceEffect
   effect-sound place (event source pool content) e =
       sound-event place b pool (eventBytes source content) (rw (length-event source content) (event-room false _ source pool (length content) e)) s
   effect-sound place (request t buffer) e = request-sound b t (length buffer) s (request-room false (b .generator .count) (dueAt b t) (length buffer) e)
