@@ -11,7 +11,7 @@ use Rattle.laws.proofs.Cases.{split}
 use Rattle.generator.specs.Counter.{maxCounter}
 use Rattle.generator.specs.Steps.{GeneratorState, decode, encode, reseed}
 use Rattle.pools.specs.declared.Fortuna.{Fortuna}
-use Rattle.pools.specs.Refusals.{andThen, seedSize, maxTries}
+use Rattle.pools.specs.Refusals.{andThen, seedSize, maxTries, updateNumber, writeNumber}
 use Rattle.pools.specs.Effects.{Effect, poolReseed, reseedWithSeed}
 use Rattle.pools.specs.Draws.{Drawn, trySize, tries, shuffleFrom, shuffled}
 use Rattle.pools.specs.Calls.{Call, event, request, update, write, draw, shuffle, readingOf, Outcome, effectOf, outcome, step}
@@ -88,17 +88,19 @@ module _ (b : Reference) (s : Sound b) where
   -- an accepted call has room for its pool reseed
   reseed-room : (c : Call) → referenceNumber b c ≡ 0 → requests c ≡ true
       → beforeReseed b c .generator .count + cond (dueAt (beforeReseed b c) (readingOf c)) 1 0 ≤ maxCounter
-  unfolding referenceNumber requests beforeReseed readingOf
+  unfolding referenceNumber updateNumber writeNumber requests beforeReseed readingOf
   reseed-room (event source pool content) e h = absurd (true≢false (sym h))
   reseed-room (request clock buffer) e h = omega (arith, request-room false _ _ (length buffer) e)
-  reseed-room (update clock seed) e h = rw (state-due b (reseed (b .generator) seed) clock) (unfold withState reseed in omega (arith, update-room false _ _ seed e))
-  reseed-room (write clock seed) e h = omega (arith, write-room false _ _ seed e)
+  reseed-room (update clock seed) e h =
+      let room = update-room false (b .generator .count) (dueAt b clock) seed e in
+      rw (state-due b (reseed (b .generator) seed) clock) (unfold withState reseed in omega (arith, room))
+  reseed-room (write clock seed) e h = omega (arith, write-room false (b .generator .count) (dueAt b clock) seed e)
   reseed-room (draw clock n d) e h = omega (arith, not-spent _ _ (3 * d) (draw-passed false _ _ n d e .room))
   reseed-room (shuffle clock list) e h =
       omega (arith, not-spent _ _ (192 * (length list - 1)) (shuffle-passed false _ _ list e (ltb-true 1 (length list) h) .room))
 
   before-sound : (c : Call) → referenceNumber b c ≡ 0 → Sound (beforeReseed b c)
-  unfolding referenceNumber beforeReseed
+  unfolding referenceNumber updateNumber beforeReseed
   before-sound (event source pool content) e = s
   before-sound (request clock buffer) e = s
   before-sound (update clock seed) e =
