@@ -253,10 +253,12 @@ fortuna_answer fortuna_request(fortuna_state *state, uint32_t clock, uint8_t *ou
    start. Store that before any byte is drawn: after a power loss the old seed would give the same bytes again.
 
    FORTUNA_BLANK_SEED: the page that the 64 bytes came from was never written, or was erased, so there is no seed. Give
-   events until a request is accepted, then call fortuna_write over the page and store it. Requests are accepted once
-   pool 0 has 64 bytes, and the first pool reseed takes pool 0 alone. What its noise is worth no call can tell: wait for
-   as much as a key needs by the estimate of your sources, as power_up in examples/c/station.c does. The number says
-   nothing about a key in use: a station that is seeded already goes on.
+   pool 0 as much noise as a key needs by the estimate of your sources, and ask for nothing before: the first request or
+   seed write that is accepted makes the pool reseed with what is there, which takes pool 0 alone. With less than 64
+   bytes in pool 0 they are refused (FORTUNA_UNSEEDED), but what 64 bytes are worth no call can tell. Then call
+   fortuna_write over the page and store it. power_up in examples/c/station.c does so. The number says nothing about a
+   key in use: a station that is seeded already goes on. A page that was written only in part before the power failed is
+   not told from a seed.
 
    FORTUNA_DONE, FORTUNA_BAD_SEED, FORTUNA_BLANK_SEED, FORTUNA_MALFORMED or FORTUNA_COUNTER_SPENT. */
 fortuna_answer fortuna_update(fortuna_state *state, uint32_t clock, uint8_t *seed, size_t length);

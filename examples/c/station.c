@@ -242,7 +242,7 @@ static void write_seed(fortuna_state *f, uint32_t clock, uint8_t page[SEED])
 }
 
 /* Where the page is blank: keys and seed writes are refused until noise has come. The first pool reseed takes pool 0
-   alone, so the first noise goes there. With no source that passes its tests there is no seed, and so no key. */
+   alone, so the first noise goes there. With no source that passes its tests it waits here: no noise, no key. */
 static void seed_from_noise(fortuna_state *f, uint32_t clock, uint8_t page[SEED])
 {
     int count = 0;

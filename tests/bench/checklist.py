@@ -335,26 +335,26 @@ def from_stored_seeds(ups, stored):
 
 
 def unwritten_lines(byte):
-    """A page that was never written, tried again with a pool reseed due by noise; then the first key and a seed."""
+    """A page that was never written, tried again with a pool reseed due by noise; then a seed, and after it a key."""
     page = blank_page(byte)
     yield from (update(0, page), request(0, KEY), write(0))
     yield from Noise(f"may, a page of {byte:02X}").filling(64)
-    yield from (update(0, page), request(0, KEY), write(0))
+    yield from (update(0, page), write(0), request(0, KEY))
 
 
 def from_unwritten_page(ups, byte):
-    """There is no seed, so noise makes the first key; what is then written over the page starts the next power-up."""
+    """There is no seed, so noise makes the first one; what is written over the page starts the next power-up."""
     name = f"may-page-{byte:02x}"
     answers = ups.run(name, unwritten_lines(byte))
-    update_again, key, seed = answers[-3:]
+    update_again, seed, key = answers[-3:]
     last = len(answers)
     for n, what, found, expected in (
         (1, "the update from a blank page", answers[0], b"36"),
         (2, "a key with no seed", answers[1], b"23"),
         (3, "a write with no seed", answers[2], b"23"),
         (last - 2, "the update from a blank page, after noise", update_again, b"36"),
-        (last - 1, "the first key, with the first pool reseed", key[:5], b"00 01"),
-        (last, "the write over a blank page", seed[:5], b"00 00"),
+        (last - 1, "the write over a blank page, with the first pool reseed", seed[:5], b"00 01"),
+        (last, "the first key", key[:5], b"00 00"),
     ):
         require_answer(name, n, what, found, expected)
     ups.add_keys(name, [drawn(key)])

@@ -237,9 +237,9 @@ def status_of(occurred, must_occur):
 
 
 def fuzz(program, seconds, seed, writer=Writer, answers=answers_to, must_occur=frozenset()):
-    """Logs by a writer, whose right answers a function works out. Past its seconds it goes on while the writer's `occurred`
-    lacks what must occur, up to MOST_LOGS: by a count and not by a time, so that a slow machine fails no oftener than a
-    fast one."""
+    """Logs by a writer, whose right answers a function works out. Past its seconds it goes on while the writer's
+    `occurred` lacks what must occur, up to MOST_LOGS: by a count and not by a time, so that a slow machine fails no
+    oftener than a fast one."""
     chance = random.Random(seed)
     start = shown = time.monotonic()
     logs = lines = 0

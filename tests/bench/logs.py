@@ -247,8 +247,8 @@ class Calls:
 
 
 def seeds():
-    """Each update's 64 bytes are the next update's seed; writes, requests and pool reseeds come between. Blank pages, before
-    the first and after the last, are no seed."""
+    """Each update's 64 bytes are the next update's seed; writes, requests and pool reseeds come between. Blank pages,
+    before the first and after the last, are no seed."""
     noise = Noise("seeds")
     calls = Calls()
     calls.add(update(0, bytes(64)))

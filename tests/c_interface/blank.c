@@ -130,8 +130,8 @@ static void power_up(uint8_t byte)
     check(answers(fortuna_request(&state, 0, key, sizeof key), FORTUNA_UNSEEDED, 0), "a request", "power-up", byte);
     check(answers(fortuna_write(&state, 0, page, SEED), FORTUNA_UNSEEDED, 0), "a write", "power-up", byte);
     state = due(state);
-    check(answers(fortuna_request(&state, 0, key, sizeof key), FORTUNA_DONE, 1), "a request", "after noise", byte);
-    check(answers(fortuna_write(&state, 0, page, SEED), FORTUNA_DONE, 0), "a write", "after noise", byte);
+    check(answers(fortuna_write(&state, 0, page, SEED), FORTUNA_DONE, 1), "a write", "after noise", byte);
+    check(answers(fortuna_request(&state, 0, key, sizeof key), FORTUNA_DONE, 0), "a request", "after noise", byte);
     state = fortuna_new();
     check(answers(fortuna_update(&state, 0, page, SEED), FORTUNA_DONE, 0), "an update", "the next power-up", byte);
 }

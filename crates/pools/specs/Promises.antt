@@ -1,4 +1,4 @@
--- What the methods promise: 01's numbers of the answers, and a call's outcome as the caller sees it.
+-- What the methods promise: the numbers of the answers (01 and 02), and a call's outcome as the caller sees it.
 -- Assumes nothing.
 use mathlib.Core.Path.{_≡_}
 use mathlib.Core.Logic.{_≢_}
@@ -16,7 +16,7 @@ use Rattle.pools.specs.declared.Outcome.{Outcome}
 use Rattle.pools.specs.declared.answer.Answer.{Answer}
 use Rattle.pools.specs.declared.answer.Answer.the-variants.{Done, SourceOutOfRange, PoolOutOfRange, DataLength, RequestTooLong, SeedSize, Malformed, PoolFull, Unseeded, CounterSpent, SlotRange, TryRange, NoneDrawn, BlankSeed}
 
--- 01's number of an answer, 0 where the call was done
+-- the number of an answer in 01 and 02, 0 where the call was done
 unfoldable pub number : Answer → ℕ
 number Done = 0
 number SourceOutOfRange = 11

@@ -11,7 +11,7 @@ const CLOCK: u32 = 1000;
 
 fn main() {
     let mut seed = [7u8; 64];
-    seed[0] = 1;
+    seed[0] = 1; // not blank
     let seeded = Fortuna::new().update_seed(CLOCK, &mut seed);
     let mut list = [0u16, 1, 2, 3, 4, 5, 6, 7, 8, 9, 10, 11];
     let shuffled = shuffle(seeded.next, CLOCK, &mut list);

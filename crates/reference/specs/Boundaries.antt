@@ -147,7 +147,7 @@ BlankPlacesRow =
     (tabulate (λ (i : ℕ). step fresh (update 0 (set (page 0xff) i 0)) .number) 64 ≡ replicate 64 0)
     × (step fresh (update 0 (take 32 firstSeed ++ take 32 firstSeed)) .number ≡ 0)
 
--- 15 before 36, 36 before 21 and before 24, also with a reseed due; each beside an update of other bytes
+-- 15 before 36, 36 before 21 and before 24, and with a reseed due; each beside an update of other bytes
 abbrev pub BlankOrderRow : Type 0
 BlankOrderRow =
     answers keyedUnseeded (update 0 (replicate 63 0) ∷ update 0 (page 0) ∷ update 0 firstSeed ∷ [])

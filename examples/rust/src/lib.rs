@@ -272,8 +272,9 @@ impl Fortuna {
     /// The seed goes in, and its successor stands in its place. Store that before anything is drawn.
     ///
     /// `BlankSeed` tells that there is no seed: 64 equal bytes, as a page of flash memory that was never written. Give
-    /// events until a request is accepted, then `write` over the page and store it. `power_up` in src/main.rs does this,
-    /// and the header says how much noise to wait for. The refusal says nothing about a key in use.
+    /// pool 0 as much noise as a key needs, and ask for nothing before: the first request that is accepted makes the
+    /// pool reseed with what is there. Then `write` over the page and store it. `power_up` in src/main.rs does this.
+    /// The refusal says nothing about a key in use.
     pub fn update(&mut self, clock: u32, seed: &mut [u8; 64]) -> Result<u32, Refusal> {
         result(unsafe { fortuna_update(&mut self.state, clock, seed.as_mut_ptr(), seed.len()) })
     }

@@ -46,7 +46,8 @@ static void station_calls(void)
     done("request with a reseed", fortuna_request(&s, CLOCK, output, OUTPUT).number);
     done("request", fortuna_request(&s, CLOCK, output, OUTPUT).number);
     done("write", fortuna_write(&s, CLOCK, seed, SEED).number);
-    done("update by unknown bytes", fortuna_update(&s, CLOCK, seed, SEED).number);
+    VALGRIND_MAKE_MEM_DEFINED(seed, SEED); /* an unknown seed has runs of its own */
+    done("update", fortuna_update(&s, CLOCK, seed, SEED).number);
     done("draw", fortuna_random_below(&s, CLOCK, SLOTS, 64).number);
     done("shuffle", fortuna_shuffle(&s, CLOCK, list, sizeof list / sizeof list[0]).number);
 }
