@@ -46,7 +46,9 @@ module _ {A : Type 0} where
           (eqb m i)
           (getD (set (tabulate f n) i (g i)) m (g i) ≡ getD (tabulate g n) m (g i))
           (λ t. rw (eqb-true m i t) (getD-set-same (tabulate f n) i (g i) (g i) (rw length-tabulate h) ∙ sym (getD-tabulate g (g i) n i h)))
-          (λ t. getD-set-other (tabulate f n) i m (g i) (g i) (eqb-false m i t) ∙ getD-tabulate f (g i) n m k ∙ e m (eqb-false m i t) ∙ sym (getD-tabulate g (g i) n m k))
+          (λ t.
+          let other = eqb-false m i t in
+          getD-set-other (tabulate f n) i m (g i) (g i) other ∙ getD-tabulate f (g i) n m k ∙ e m other ∙ sym (getD-tabulate g (g i) n m k))
 
   -- every element the same
   pub replicate-tabulate : (f : ℕ → A) (x : A) (n : ℕ) → ((i : ℕ) → f i ≡ x) → replicate n x ≡ tabulate f n

@@ -124,8 +124,9 @@ write-effect : (s : Fortuna) (clock : ℕ) (held other : List ℕ) → length he
     → step s (write clock held) .number ≡ 0 → step s (write clock held) .effect ≡ step s (write clock other) .effect
 unfolding step outcome callFound callEffect effectOf
 write-effect s clock held other e n =
-    let accepted : callNumber s (write clock other) ≡ 0 = sym (write-check s clock held other e) ∙ sym (then-accepted (callNumber s (write clock held))) ∙ n in
-    rw (write-check s clock held other e, accepted)
+    let same = write-check s clock held other e in
+    let accepted : callNumber s (write clock other) ≡ 0 = sym same ∙ sym (then-accepted (callNumber s (write clock held))) ∙ n in
+    rw (same, accepted)
 
 pub blank-law : BlankLaw
 blank-law =

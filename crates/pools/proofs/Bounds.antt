@@ -80,7 +80,8 @@ none-drawn s c e = not-listed c (rw e at (call-numbers s c))
 pub step-number-small : (s : Fortuna) (c : Call) → step s c .number ≤ 99
 unfolding step outcome
 step-number-small s c =
-    then-holds (λ (k : ℕ). k ≤ 99) _ _ (ltb-false 99 _ (number-known s c .small)) (split (λ (k : ℕ). k ≤ 99) (callFound s c) (λ t. zero-le) (λ t. lit≤ tt))
+    then-holds (λ (k : ℕ). k ≤ 99) _ _ (ltb-false 99 _ (number-known s c .small))
+    (split (λ (k : ℕ). k ≤ 99) (callFound s c) (λ t. zero-le) (λ t. lit≤ tt))
 
 -- an answer's number
 pub answer-small : (a : Answer) → number a < 100

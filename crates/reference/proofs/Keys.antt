@@ -156,5 +156,6 @@ module _ (b : Reference) (s : Sound b) where
 
     pub takes : TakenFrom (madeFrom (decode (poolReseed (atReseed (concrete b) c) (readingOf c) .generator)) c) (step (concrete b) c)
     takes =
-        subst (λ (o : Outcome Fortuna). TakenFrom (madeFrom (decode (poolReseed (atReseed (concrete b) c) (readingOf c) .generator)) c) o) (sym (step-agrees 0 b s c))
+        subst (λ (o : Outcome Fortuna). TakenFrom (madeFrom (decode (poolReseed (atReseed (concrete b) c) (readingOf c) .generator)) c) o)
+        (sym (step-agrees 0 b s c))
         (subst (λ (w : GeneratorState). TakenFrom (madeFrom w c) (concreteOutcome (referenceStep 0 b c))) key-is step-takes)

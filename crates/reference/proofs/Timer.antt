@@ -92,7 +92,8 @@ draw-emptied : (clock n d : ℕ) (s : Fortuna) → ltb 0 (tries (tryAt clock) n 
 draw-emptied clock n zero s = unfold tries unchanged in refl
 draw-emptied clock n (suc d) s = rw (lt-ltb 0 (suc d) (omega arith), first-try clock n d s .0) (emptied-due s clock)
 
-shuffle-emptied : (clock : ℕ) (list : List ℕ) (s : Fortuna) → ltb 0 (shuffled (tryAt clock) list s .effect .emptied) ≡ (ltb 1 (length list) && due s clock)
+shuffle-emptied : (clock : ℕ) (list : List ℕ) (s : Fortuna)
+    → ltb 0 (shuffled (tryAt clock) list s .effect .emptied) ≡ (ltb 1 (length list) && due s clock)
 shuffle-emptied clock list s =
     by-test (ltb 1 (length list)) _
     (λ t. rw (t, first-shuffled clock list s (ltb-true 1 (length list) t) .0) (emptied-due s clock))
@@ -141,12 +142,14 @@ module _ (clock : ℕ) where
     next = λ s e f q r. unfold after in let y = r (q .0) in (y .0, y .1 ∙ q .1);
   }
 
-  draw-mark : (n d : ℕ) (s : Fortuna) → tries (tryAt clock) n d s .effect .next .«last_reseed» ≡ cond (ltb 0 d && due s clock) clock (s .«last_reseed»)
+  draw-mark : (n d : ℕ) (s : Fortuna)
+      → tries (tryAt clock) n d s .effect .next .«last_reseed» ≡ cond (ltb 0 d && due s clock) clock (s .«last_reseed»)
   unfolding Marked
   draw-mark n zero s = unfold tries unchanged in refl
   draw-mark n (suc d) s = rw (lt-ltb 0 (suc d) (omega arith)) (begun-tries (tryAt clock) Unmoved unmoved Marked marked n d s .1)
 
-  shuffle-mark : (list : List ℕ) (s : Fortuna) → shuffled (tryAt clock) list s .effect .next .«last_reseed» ≡ cond (ltb 1 (length list) && due s clock) clock (s .«last_reseed»)
+  shuffle-mark : (list : List ℕ) (s : Fortuna)
+      → shuffled (tryAt clock) list s .effect .next .«last_reseed» ≡ cond (ltb 1 (length list) && due s clock) clock (s .«last_reseed»)
   unfolding Marked
   shuffle-mark list s =
       by-test (ltb 1 (length list)) _
@@ -172,7 +175,8 @@ unfolding effectOf unchanged
 outcome-emptied zero buffer s x d h = h
 outcome-emptied (suc n) buffer s x d h = rw (eqb·suc-zero n)
 
-outcome-mark : (n : ℕ) (buffer : List ℕ) (s : Fortuna) (x : Effect Fortuna) (d : Bool) (t : ℕ) → x .next .«last_reseed» ≡ cond d t (s .«last_reseed»)
+outcome-mark : (n : ℕ) (buffer : List ℕ) (s : Fortuna) (x : Effect Fortuna) (d : Bool) (t : ℕ)
+    → x .next .«last_reseed» ≡ cond d t (s .«last_reseed»)
     → effectOf n buffer s x .next .«last_reseed» ≡ cond (eqb n 0 && d) t (s .«last_reseed»)
 unfolding effectOf unchanged
 outcome-mark zero buffer s x d t h = h
@@ -224,7 +228,9 @@ reseeded-after calls =
     ap (λ (s : Fortuna). s .reseeded) (agrees calls .state)
     ∙ (unfold concrete in ap (λ (n : ℕ). ltb 0 n) (sym (reseeds-after calls (agrees calls .outcomes))))
 
-due-after : (calls : List Call) (clock : ℕ) → due (stateAfter calls) clock ≡ isDue (poolAt (stateAfter calls) 0 .length) (ltb 0 (reseedsAfter calls)) (stateAfter calls .«last_reseed») clock
+due-after : (calls : List Call) (clock : ℕ)
+    → due (stateAfter calls) clock
+    ≡ isDue (poolAt (stateAfter calls) 0 .length) (ltb 0 (reseedsAfter calls)) (stateAfter calls .«last_reseed») clock
 unfolding due
 due-after calls clock = ap (λ (made : Bool). isDue (poolAt (stateAfter calls) 0 .length) made (stateAfter calls .«last_reseed») clock) (reseeded-after calls)
 
@@ -236,7 +242,8 @@ timer-step calls c = record { reseeds = (says, holds); mark = step-mark s c }
 
     Told : Type 0
     Told =
-        ((step (stateAfter calls) c .number ≡ 0) ⊎ (step (stateAfter calls) c .number ≡ 33)) × (requests c ≡ true) × (64 ≤ poolAt (stateAfter calls) 0 .length)
+        ((step (stateAfter calls) c .number ≡ 0) ⊎ (step (stateAfter calls) c .number ≡ 33)) × (requests c ≡ true)
+        × (64 ≤ poolAt (stateAfter calls) 0 .length)
         × ((reseedsAfter calls ≡ 0) ⊎ ((e : ℕ) × Later (stateAfter calls .«last_reseed») e (readingOf c) × (100 < e)))
 
     says : 0 < step (stateAfter calls) c .effect .emptied → Told
@@ -244,12 +251,14 @@ timer-step calls c = record { reseeds = (says, holds); mark = step-mark s c }
         unfold Waited in
         let p = both (eqb (callNumber (stateAfter calls) c) 0) (dueFor (stateAfter calls) c) (sym (step-emptied (stateAfter calls) c) ∙ lt-ltb 0 _ h) in
         let k = due-parts (stateAfter calls) c (p .1) in
-        let d = due-says (poolAt (stateAfter calls) 0 .length) (reseedsAfter calls) (stateAfter calls .«last_reseed») (readingOf c) (sym (due-after calls (readingOf c)) ∙ k .1) in
+        let told = sym (due-after calls (readingOf c)) ∙ k .1 in
+        let d = due-says (poolAt (stateAfter calls) 0 .length) (reseedsAfter calls) (stateAfter calls .«last_reseed») (readingOf c) told in
         (step-taken (stateAfter calls) c (eqb-true _ 0 (p .0)), k .0, d .0, d .1)
 
     holds : Told → 0 < step (stateAfter calls) c .effect .emptied
     holds (n, k, size, w) =
         unfold Waited in
-        let d : due (stateAfter calls) (readingOf c) ≡ true = due-after calls (readingOf c) ∙ due-holds (poolAt (stateAfter calls) 0 .length) (reseedsAfter calls) (stateAfter calls .«last_reseed») (readingOf c) size w in
+        let waited = due-holds (poolAt (stateAfter calls) 0 .length) (reseedsAfter calls) (stateAfter calls .«last_reseed») (readingOf c) size w in
+        let d : due (stateAfter calls) (readingOf c) ≡ true = due-after calls (readingOf c) ∙ waited in
         let e = step-not-refused (stateAfter calls) c n in
         ltb-true 0 _ (step-emptied (stateAfter calls) c ∙ rw (e, due-whole (stateAfter calls) c k d))

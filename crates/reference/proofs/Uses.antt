@@ -48,7 +48,9 @@ unfolding select
 select-mem t [] e m h = absurd (List·Memᴰ·not-nil m)
 select-mem t (x ∷ es) e m h =
     ⊎-elim
-    (λ q. subst (λ b. List·Memᴰ (pieceOf e) (map pieceOf (cond b (x ∷ select t es) (select t es)))) (sym (ap t (sym q) ∙ h)) (List·Memᴰ·head (ap pieceOf q)))
+    (λ q.
+    subst (λ b. List·Memᴰ (pieceOf e) (map pieceOf (cond b (x ∷ select t es) (select t es)))) (sym (ap t (sym q) ∙ h))
+    (List·Memᴰ·head (ap pieceOf q)))
     (λ n. here (t x) (select-mem t es e n h))
     (List·Memᴰ·cases-cons m)
   where

@@ -48,7 +48,8 @@ loop-again c =
     let head = c .before .before in
     let start = head .before .before in
     let seed = start .args .seed .now in
-    (omega arith, compared-turn (head .loop .differing) (head .loop .i) (getD seed 0 0) seed (omega (arith, c .before .loop-test .taken)) (start .pre) (head .loop .inv .1))
+    let below : head .loop .i < 64 = omega (arith, c .before .loop-test .taken) in
+    (omega arith, compared-turn (head .loop .differing) (head .loop .i) (getD seed 0 0) seed below (start .pre) (head .loop .inv .1))
 
 returns : tie.Need-returns Inv-loop μ-loop
 unfolding blank seedSize
@@ -56,7 +57,9 @@ returns c =
     let head = c .before in
     let start = head .before .before in
     let seed = start .args .seed .now in
-    compared-all (head .loop .differing) (head .loop .i) seed (page (getD seed 0 0)) (omega (arith, start .pre)) (rw length-replicate (omega arith)) (head .loop .inv .1)
+    let first = getD seed 0 0 in
+    compared-all (head .loop .differing) (head .loop .i) seed (page first) (omega (arith, start .pre)) (rw length-replicate (omega arith))
+    (head .loop .inv .1)
 
 pub is-blank-spec : {M : Type 1} → statement M
 is-blank-spec =
