@@ -10,7 +10,7 @@ use lib.Dec.{eqb, ltb}
 use lib.ListN.{length}
 use borrow.Author.Tests.{ltb-false, le-ltb, eqb-true, eqb-false}
 use Rattle.laws.specs.Refusals.{refuse}
-use Rattle.laws.proofs.Cases.{by-test, cond-cong, neither}
+use Rattle.laws.proofs.Cases.{split, by-test, cond-cong, neither}
 use Rattle.laws.proofs.Refusals.{passed}
 use Rattle.hash.specs.ShaD.{maxPoolLength}
 use Rattle.generator.specs.Counter.{maxCounter}
@@ -92,12 +92,29 @@ pub update-size : (m : Bool) (c : ℕ) (due : Bool) (seed : List ℕ) → update
 unfolding updateNumber updateInput seedInput andThen
 update-size m c due seed e = sized seed (updateNumber m c due seed) (λ t. rw t) e
 
+-- an accepted update is on a well-formed state with room, in whatever order the chain has its tests
+record Accepts (Q : Type 0) (n : ℕ) : Type 0 where
+  holds : n ≡ 0 → Q
+
+module _ (Q : Type 0) where
+  accepts-not : (n : ℕ) → eqb n 0 ≡ false → Accepts Q n
+  accepts-not n h = record { holds = λ e. absurd (eqb-false n 0 h e) }
+
+  accepts-first : (m n : ℕ) → Accepts Q m → Accepts Q (andThen m n)
+  accepts-first m n a = record { holds = λ e. a .holds (both-passed m n e .0) }
+
+  accepts-second : (m n : ℕ) → Accepts Q n → Accepts Q (andThen m n)
+  accepts-second m n a = record { holds = λ e. a .holds (both-passed m n e .1) }
+
+  accepts-refuse : (t : Bool) (n rest : ℕ) → Accepts Q n → (t ≡ false → Accepts Q rest) → Accepts Q (refuse t n rest)
+  accepts-refuse t n rest a f = split (Accepts Q) t (λ h. a) f
+
+update-accepts : (m : Bool) (c : ℕ) (due : Bool) (seed : List ℕ) → Accepts ((m ≡ false) × (spent c due 7 ≡ false)) (updateNumber m c due seed)
+unfolding updateNumber updateInput seedInput updateState
+update-accepts m c due seed = search (accepts-not, accepts-first, accepts-second, accepts-refuse) depth 9
+
 pub update-passed : (m : Bool) (c : ℕ) (due : Bool) (seed : List ℕ) → updateNumber m c due seed ≡ 0 → (m ≡ false) × (spent c due 7 ≡ false)
-unfolding updateNumber updateState
-update-passed m c due seed e =
-    let s = both-passed _ (refuse m 21 (refuse (spent c due 7) 24 0)) e .1 in
-    let p = passed m 21 (refuse (spent c due 7) 24 0) (omega arith) s in
-    (p .0, passed (spent c due 7) 24 0 (omega arith) (p .1) .0)
+update-passed m c due seed e = update-accepts m c due seed .holds e
 
 pub update-room : (m : Bool) (c : ℕ) (due : Bool) (seed : List ℕ) → updateNumber m c due seed ≡ 0 → c + cond due 1 0 + 7 ≤ maxCounter
 update-room m c due seed e = not-spent c due 7 (update-passed m c due seed e .1)
