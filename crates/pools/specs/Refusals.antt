@@ -74,6 +74,7 @@ seedInput seed = refuse (not (eqb (length seed) seedSize)) 15 0
 unfoldable pub blank : List ℕ → Bool
 blank seed = sameList seed (replicate seedSize (getD seed 0 0))
 
+-- the input numbers of an update: 15, then 36; a write has 15 alone
 unfoldable pub updateInput : List ℕ → ℕ
 updateInput seed = andThen (seedInput seed) (refuse (blank seed) 36 0)
 

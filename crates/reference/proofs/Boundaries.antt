@@ -2,12 +2,13 @@
 -- Assumes nothing.
 use mathlib.Core.Path.{refl}
 use Rattle.hash.specs.Constants.{H⁰}
+use Rattle.pools.specs.Promises.{callNumbers}
 use Rattle.reference.specs.Boundaries.{answers, refusals, withPools, withFirstPool, withKey, withTimer, withRequests, keyedUnseeded, strings4, given, late, firstSeed, page, countAfter, Boundaries}
 use Rattle.reference.proofs.Computing.{answering, adding, emptying, seeding, drawing, starting}
 
 -- what these rows alone compute with
 own : Unit {0}
-unfolding H⁰ answers refusals withPools withFirstPool withKey withTimer withRequests keyedUnseeded strings4 given late firstSeed page countAfter
+unfolding H⁰ callNumbers answers refusals withPools withFirstPool withKey withTimer withRequests keyedUnseeded strings4 given late firstSeed page countAfter
 own = tt
 
 pub boundaries : Boundaries
@@ -29,6 +30,7 @@ boundaries =
       blankWrites = refl;
       draws = refl;
       shuffles = refl;
+      listed = (refl, refl, refl, refl, refl, refl);
       listSizes = refl;
       tries = refl;
       found = refl;

@@ -6,7 +6,7 @@ use mathlib.Core.Bool.{Bool, true, false, cond, _&&_}
 use lib.Dec.{eqb, ltb}
 use mathlib.Core.List.{List, [], _∷_, _++_, map}
 use Prim.Native.Nat.{ℕ, _+_, _-_, _^_}
-use lib.ListN.{length, getD, take, replicate, set}
+use lib.ListN.{length, getD, take, drop, replicate, set}
 use Rattle.laws.specs.Lists.{tabulate}
 use Rattle.hash.specs.Constants.{H⁰}
 use Rattle.hash.specs.ShaD.{D, emptyPool}
@@ -18,6 +18,7 @@ use Rattle.pools.specs.Effects.{Effect, randomData}
 use Rattle.pools.specs.Draws.{Drawn, tries, shuffled, tryAt}
 use Rattle.pools.specs.State.{fresh, poolAt, counterOf, malformed}
 use Rattle.pools.specs.Tries.{drawTries, shuffleTries}
+use Rattle.pools.specs.Promises.{callNumbers}
 use Rattle.pools.specs.Calls.{Call, event, request, update, write, draw, shuffle, callNumber, Outcome, outcome, step}
 use Rattle.reference.specs.Readings.{wholeBlocks, reseededState, seededState}
 
@@ -184,6 +185,26 @@ DrawRow =
     ++ map (λ (c : ℕ). callNumber (seededState c) (draw 0 6 2)) ((2 ^ 128 - 7) ∷ (2 ^ 128 - 6) ∷ [])
     ++ map (λ (c : ℕ). callNumber (reseededState c 1 0) (draw 200 6 2)) ((2 ^ 128 - 8) ∷ (2 ^ 128 - 7) ∷ [])
     ≡ 31 ∷ 31 ∷ 32 ∷ 32 ∷ 21 ∷ 21 ∷ 23 ∷ 0 ∷ 0 ∷ 24 ∷ 0 ∷ 24 ∷ []
+
+-- each number that `callNumbers` lists for a call is one that its check gives, in that order; for 14 see `RequestSizeRow`
+abbrev pub ListedRow : Type 0
+ListedRow =
+    let full = withFirstPool fresh (record { chain = replicate 8 0; tail = replicate 64 0; length = 2 ^ 61 - 65 }) in
+    let spent = seededState (2 ^ 128 - 1) in
+    let one : List ℕ = 1 ∷ [] in
+    let two : List ℕ = 5 ∷ 6 ∷ [] in
+    (refusals fresh (event 0 0 one ∷ event 65536 0 one ∷ event 0 32 one ∷ event 0 0 [] ∷ [])
+    ++ refusals keyedUnseeded (event 0 0 one ∷ []) ++ refusals full (event 0 0 one ∷ []) ≡ callNumbers (event 0 0 []))
+    × (map (λ (s : Fortuna). callNumber s (request 0 [])) (seededState 1 ∷ keyedUnseeded ∷ fresh ∷ spent ∷ [])
+    ≡ take 1 (callNumbers (request 0 [])) ++ drop 2 (callNumbers (request 0 [])))
+    × (refusals fresh (update 0 firstSeed ∷ update 0 [] ∷ update 0 (page 0) ∷ [])
+    ++ map (λ (s : Fortuna). callNumber s (update 0 firstSeed)) (keyedUnseeded ∷ spent ∷ []) ≡ callNumbers (update 0 []))
+    × (refusals (seededState 1) (write 0 firstSeed ∷ write 0 [] ∷ [])
+    ++ map (λ (s : Fortuna). callNumber s (write 0 firstSeed)) (keyedUnseeded ∷ fresh ∷ spent ∷ []) ≡ callNumbers (write 0 []))
+    × (refusals (seededState 1) (draw 0 6 1 ∷ draw 0 0 1 ∷ draw 0 6 0 ∷ [])
+    ++ map (λ (s : Fortuna). callNumber s (draw 0 6 1)) (keyedUnseeded ∷ fresh ∷ spent ∷ []) ≡ callNumbers (draw 0 0 0))
+    × (refusals (seededState 1) (shuffle 0 two ∷ shuffle 0 (5 ∷ two) ∷ [])
+    ++ map (λ (s : Fortuna). callNumber s (shuffle 0 two)) (keyedUnseeded ∷ fresh ∷ spent ∷ []) ≡ callNumbers (shuffle 0 []))
 
 -- a shuffle: 31 for a repeat or more than 256 numbers, before 21; below 2 numbers neither 23 nor 24; 192 blocks for each number but one
 abbrev pub ShuffleRow : Type 0
@@ -434,6 +455,7 @@ pub record Boundaries : Type 0 where
   pub blankWrites : BlankWriteRow
   pub draws : DrawRow
   pub shuffles : ShuffleRow
+  pub listed : ListedRow
   pub listSizes : ListSizeRow
   pub tries : TriesRow
   pub found : FoundRow

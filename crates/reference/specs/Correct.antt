@@ -26,5 +26,5 @@ pub record RunCorrect (calls : List Call) : Type 0 where
   pub counted : Counted calls
   -- the number in the state is how many requests were made on the key, up to 65,535
   pub key-requests : OnOneKey calls
-  -- 36 refuses the updates of 64 equal bytes, whatever came before, and decides nothing else
+  -- 36 refuses the updates of 64 equal bytes and no other call, whatever came before; writes go by a page's size alone
   pub blank : BlankLaw
