@@ -2,10 +2,11 @@
 -- Assumes nothing.
 use Prim.Native.Nat.{ℕ, zero, suc, _+_, _-_, _*_, _≤_, _<_}
 use mathlib.Core.Path.{_≡_, refl, sym, ap, ap₂, _∙_}
-use mathlib.Core.List.{List}
+use mathlib.Core.List.{List, _++_}
+use native.Mathlib.Nat.{add-suc, add-zero}
 use native.Mathlib.Omega.{arith}
 use lib.ListN.{length, take, length-append}
-use lib.Seq.{paste, take-paste, length-paste, take-all, take-at, getD-take}
+use lib.Seq.{paste, take-paste, length-paste, take-all, take-at, take-append-le, getD-take, getD-append-add}
 use Rattle.laws.specs.Lists.{overwrite}
 use Rattle.laws.proofs.Copy.{overwrite-fits}
 use Rattle.cipher.specs.Aes.{at, wordAt, xorWord, temp, nextWord, withNextWord, expand, keyExpansion}
@@ -66,3 +67,53 @@ unfolding keyExpansion
 expanded-all key w i (low, high, l, e) h =
     let d : i ≡ 60 = omega arith in
     sym (take-all 240 w (omega arith)) ∙ rw d at e
+
+-- ---- each word of a schedule is the next of those before
+
+-- the words before 8 + n, however far the key is expanded
+prefix : (key : List ℕ) (n d : ℕ) → length key ≡ 32 → take (4 * (8 + n)) (expand key (n + d)) ≡ expand key n
+unfolding expand withNextWord
+prefix key n zero k =
+    let z : n + 0 ≡ n = omega arith in
+    let e = length-expand key n in
+    rw z (take-all (4 * (8 + n)) (expand key n) (omega arith))
+prefix key n (suc d) k =
+    let e = length-expand key (n + d) in
+    rw (add-suc n d) (take-append-le (4 * (8 + n)) (expand key (n + d)) _ (omega arith) ∙ prefix key n d k)
+
+whole-prefix : (key : List ℕ) (n : ℕ) → n ≤ 52 → length key ≡ 32 → take (4 * (8 + n)) (keyExpansion key) ≡ expand key n
+unfolding keyExpansion
+whole-prefix key n h k =
+    let e : n + (52 - n) ≡ 52 = omega arith in
+    ap (λ (m : ℕ). take (4 * (8 + n)) (expand key m)) (sym e) ∙ prefix key n (52 - n) k
+
+-- the schedule starts with the key
+pub key-front : (key : List ℕ) → length key ≡ 32 → take 32 (keyExpansion key) ≡ key
+unfolding expand
+key-front key k = whole-prefix key 0 (omega arith) k
+
+-- the word behind a list of whole words
+appended : (p q : List ℕ) (i : ℕ) → length p ≡ 4 * i → wordAt (p ++ q) i ≡ wordAt q 0
+appended p q i e =
+    let at-end : (j : ℕ) → at (p ++ q) (4 * i + j) ≡ at q j = λ j. rw (← e) (getD-append-add p q j 0) in
+    let first : at (p ++ q) (4 * i) ≡ at q 0 = rw add-zero at (at-end 0) in
+    rw (first, at-end 1, at-end 2, at-end 3) refl
+
+next-whole : (w : List ℕ) (i : ℕ) → wordAt (nextWord w i) 0 ≡ nextWord w i
+unfolding nextWord
+next-whole w i = refl
+
+last-word : (key : List ℕ) (n : ℕ) → length key ≡ 32 → wordAt (expand key (suc n)) (8 + n) ≡ nextWord (expand key n) (8 + n)
+unfolding expand withNextWord
+last-word key n k =
+    let e = length-expand key n in
+    appended (expand key n) (nextWord (expand key n) (8 + n)) (8 + n) (omega arith) ∙ next-whole (expand key n) (8 + n)
+
+pub next-at : (key : List ℕ) (n : ℕ) → length key ≡ 32 → n < 52 → wordAt (keyExpansion key) (8 + n) ≡ nextWord (keyExpansion key) (8 + n)
+next-at key n k h =
+    let w : List ℕ = keyExpansion key in
+    sym (word-in w (4 * (8 + suc n)) (8 + n) (omega arith))
+    ∙ ap (λ (s : List ℕ). wordAt s (8 + n)) (whole-prefix key (suc n) h k)
+    ∙ last-word key n k
+    ∙ ap (λ (s : List ℕ). nextWord s (8 + n)) (sym (whole-prefix key n (omega arith) k))
+    ∙ next-in w (8 + n) (omega arith)

@@ -3,7 +3,7 @@ ghost use mathlib.Core.Path.{_≡_};
 ghost use Rattle.cipher.specs.Field.{xtime, subByte, sBox};
 
 // The S-box. A constant is built anew wherever it is used, so callers build it once and lend it.
-pub(crate) fn s_box() -> [u8; 256]
+pub fn s_box() -> [u8; 256]
     ensures { λ r. ⌜ r ≡ sBox ⌝ }
 {
     SBOX

@@ -1,5 +1,6 @@
 // The C interface: include/fortuna.h says the same in C's words.
 mod aes256;
+mod aes256_bytewise;
 mod fortuna_generator;
 mod health_tests;
 mod sha256;
@@ -10,6 +11,9 @@ mod whole_log;
 pub use aes256::Aes256Key;
 pub use aes256::fortuna_aes256_block;
 pub use aes256::fortuna_aes256_expand;
+pub use aes256_bytewise::Aes256BytewiseKey;
+pub use aes256_bytewise::fortuna_aes256_bytewise_block;
+pub use aes256_bytewise::fortuna_aes256_bytewise_expand;
 pub use fortuna_generator::FortunaGeneratorOutcome;
 pub use fortuna_generator::fortuna_generator_blocks;
 pub use fortuna_generator::fortuna_generator_new;

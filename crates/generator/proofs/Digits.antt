@@ -15,7 +15,7 @@ use lib.Seq.{drop-cons, getD-set-same, getD-set-other}
 use borrow.Author.Tests.{eqb-true, eqb-false, ne-eqb, lt-ltb, le-ltb}
 use Rattle.laws.specs.Lists.{allZero}
 use Rattle.laws.proofs.Cases.{by-test}
-use Rattle.generator.specs.Counter.{value, littleEndian, maxCounter}
+use Rattle.generator.specs.Counter.{value, littleEndian, SixteenBytes, maxCounter, counterBlock}
 
 -- each element is a byte
 abbrev pub AllBytes : List ℕ → Type 0
@@ -119,3 +119,19 @@ carry-on ps i v h full e =
     let p : 256 ^ (i + 1) ≡ 256 ^ i * 256 = rw add-one (pow-suc 256 i) in
     let s : value (set ps i 0) + 255 * 256 ^ i ≡ value ps + 0 * 256 ^ i = rw full at (value-set ps i 0 h) in
     omega (arith, p, s, e)
+
+-- a counter block is bytes
+bytes-little : (n v i : ℕ) → getD (littleEndian n v) i 0 < 256
+unfolding littleEndian
+bytes-little zero v i = lit< tt
+bytes-little (suc n) v zero = omega arith
+bytes-little (suc n) v (suc i) = bytes-little n (v / 256) i
+
+-- and its 16 bytes stand for a counter in memory
+pub sixteen : (c : List ℕ) (v : ℕ) → c ≡ littleEndian 16 v → SixteenBytes c
+unfolding littleEndian
+sixteen c v e = (ap length e, λ i. rw e (bytes-little 16 v i))
+
+pub bytes-counter : (c : ℕ) → AllBytes (counterBlock c)
+unfolding counterBlock
+bytes-counter c = bytes-little 16 c

@@ -9,6 +9,8 @@ use native.Mathlib.Decide.{decLe}
 use native.Mathlib.Omega.{arith}
 use lib.ListN.{length, take, drop, length-append, length-drop, drop-of-length-le}
 use lib.Seq.{take-all, take-at, drop-at, drop-drop, take-append-add, drop-length}
+use Rattle.laws.specs.Lists.{overwrite}
+use Rattle.laws.proofs.Copy.{overwrite-cut}
 use Rattle.generator.specs.Counter.{counterBlock}
 use Rattle.generator.specs.Closed.{counters, enciphered}
 
@@ -83,12 +85,19 @@ module _ (f : List ℕ → List ℕ) (size : (b : List ℕ) → length (f b) ≡
   over-full c k d h =
       rw (drop-of-length-le d {i = length (enciphered f (counters c k))} (rw length-enciphered h), append-nil)
 
-  -- two ciphers that agree on every block make the same
-  pub enciphered-ext : (g : List ℕ → List ℕ) → ((b : List ℕ) → f b ≡ g b) → (cs : List ℕ) → enciphered f cs ≡ enciphered g cs
+  -- two ciphers that agree on every counter block make the same
+  pub enciphered-ext : (g : List ℕ → List ℕ) → ((c : ℕ) → f (counterBlock c) ≡ g (counterBlock c)) → (cs : List ℕ) → enciphered f cs ≡ enciphered g cs
   unfolding enciphered
   enciphered-ext g h [] = refl
-  enciphered-ext g h (c ∷ cs) = rw (h (counterBlock c), enciphered-ext g h cs)
+  enciphered-ext g h (c ∷ cs) = rw (h c, enciphered-ext g h cs)
 
 pub over-none : (f : List ℕ → List ℕ) (c : ℕ) (d : List ℕ) → d ≡ over (enciphered f (counters c 0)) d
 unfolding enciphered counters
 over-none f c d = sym (take-all (length d) d (omega arith))
+
+-- a block laid over a part of at most 16 bytes is cut to it
+pub cut-block : (f : List ℕ → List ℕ) → ((b : List ℕ) → length (f b) ≡ 16) → (part block b : List ℕ) (m : ℕ) → length part ≡ m → m ≤ 16 → block ≡ f b
+    → overwrite part block ≡ take m (f b)
+cut-block f size part block b m l h e =
+    let n : length (f b) ≡ 16 = size b in
+    ap (overwrite part) e ∙ overwrite-cut part (f b) (omega arith) ∙ ap (λ (k : ℕ). take k (f b)) l

@@ -1,7 +1,9 @@
 -- C as 16 bytes, least significant first, and as the number that they stand for (004, 9.4.2).
 -- Assumes nothing.
 use mathlib.Core.List.{List, [], _∷_}
-use Prim.Native.Nat.{ℕ, zero, suc, _+_, _*_, _/_, _%_, _^_, _-_}
+use mathlib.Core.Path.{_≡_}
+use lib.ListN.{length, getD}
+use Prim.Native.Nat.{ℕ, zero, suc, _+_, _*_, _/_, _%_, _^_, _-_, _<_}
 
 -- the sum of p_i 2^(8 i)
 unfoldable pub value : List ℕ → ℕ
@@ -12,6 +14,10 @@ value (p ∷ ps) = p + 256 * value ps
 unfoldable pub littleEndian : ℕ → ℕ → List ℕ
 littleEndian zero v = []
 littleEndian (suc n) v = v % 256 ∷ littleEndian n (v / 256)
+
+-- what a counter in memory is: 16 bytes
+abbrev pub SixteenBytes : List ℕ → Type 0
+SixteenBytes s = (length s ≡ 16) × ((i : ℕ) → getD s i 0 < 256)
 
 -- the largest value of C
 unfoldable pub maxCounter : ℕ

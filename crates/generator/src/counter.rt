@@ -2,7 +2,7 @@
 ghost use mathlib.Core.Path.{_≡_};
 ghost use Prim.Native.Nat.{_+_};
 ghost use lib.Dec.{ltb};
-ghost use Rattle.generator.specs.Counter.{value, littleEndian, maxCounter};
+ghost use Rattle.generator.specs.Counter.{value, littleEndian, SixteenBytes, maxCounter};
 
 fn wide(byte: u8) -> u64
     ensures { λ r. ⌜ r ≡ byte ⌝ }
@@ -11,20 +11,19 @@ fn wide(byte: u8) -> u64
 }
 
 // The counter plus 1 modulo 2^128. All but one in 256 end at the first byte.
-pub(crate) fn increment(counter: [u8; 16]) -> [u8; 16]
-    ensures { λ r. ⌜ r ≡ littleEndian 16 (value counter + 1) ⌝ }
+pub(crate) fn increment(counter: &mut [u8; 16])
+    requires { ⌜ SixteenBytes (now counter) ⌝ }
+    ensures { λ r. ⌜ now (counter .exit) ≡ littleEndian 16 (value (now (counter .entry)) + 1) ⌝ }
 {
-    let mut bytes = counter;
     let mut i: usize = 0;
     while i < 16 {
-        if bytes[i] < 255 {
-            bytes[i] = bytes[i] + 1;
-            return bytes;
+        if counter[i] < 255 {
+            counter[i] = counter[i] + 1;
+            return;
         }
-        bytes[i] = 0;
+        counter[i] = 0;
         i = i + 1;
     }
-    bytes
 }
 
 // Whether the counter cannot grow by k: something is carried out of its last byte.

@@ -119,13 +119,13 @@ impl Generator {
         ensures { λ r. ⌜ r ≡ encode (reseed (decode self) (now (seed .entry))) ⌝ }
     {
         let key = self.key;
-        let counter = self.counter;
+        let mut counter = self.counter;
         let hashed = hash::sha_d256_joined(&key, seed);
         let digest = hashed.digest;
-        let after = increment(counter);
+        increment(&mut counter);
         Generator {
             key: digest,
-            counter: after,
+            counter: counter,
         }
     }
 
@@ -136,29 +136,34 @@ impl Generator {
             × (now (out .exit) ≡ blockData (decode self) (length (now (out .entry))) .bytes) ⌝ }
     {
         let key = self.key;
-        let counter = self.counter;
-        let after = fill(cipher::expand_key(key), counter, out);
+        let mut counter = self.counter;
+        let tables = word_cipher::tables();
+        let schedule = word_cipher::expand_key(key);
+        let words = schedule.words;
+        fill(&tables, &words, &mut counter, out);
         Generator {
             key: key,
-            counter: after,
+            counter: counter,
         }
     }
 
-    // The request, where it is accepted. One key expansion serves output and key blocks.
+    // The request, where it is accepted. One key expansion and one build of the tables serve output and key blocks.
     fn served(self, out: &mut [u8]) -> Generator
         requires { ⌜ decode self .count + (blockCount (length (now out)) + 2) ≤ maxCounter ⌝ }
         ensures { λ r. ⌜ (r ≡ encode (pseudoRandomData (decode self) (length (now (out .entry))) .next))
             × (now (out .exit) ≡ pseudoRandomData (decode self) (length (now (out .entry))) .bytes) ⌝ }
     {
         let key = self.key;
-        let counter = self.counter;
-        let schedule = cipher::expand_key(key);
-        let after = fill(schedule, counter, out);
+        let mut counter = self.counter;
+        let tables = word_cipher::tables();
+        let schedule = word_cipher::expand_key(key);
+        let words = schedule.words;
+        fill(&tables, &words, &mut counter, out);
         let mut next = [0u8; 32];
-        let last = fill(schedule, after, &mut next);
+        fill(&tables, &words, &mut counter, &mut next);
         Generator {
             key: next,
-            counter: last,
+            counter: counter,
         }
     }
 

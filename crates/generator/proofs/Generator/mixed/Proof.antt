@@ -2,9 +2,12 @@
 -- Assumes nothing.
 use mathlib.Core.Path.{_≡_, _∙_}
 use Prim.Native.Nat.{_+_, _≤_}
-use lib.ListN.{length}
+use mir.Val.{Fits}
+use mir.Syntax.{w8}
+use lib.ListN.{length, getD}
 use Rattle.hash.specs.ShaD.{maxDMessage}
 use Rattle.hash.proofs.Laws.{digest-within}
+use Rattle.generator.specs.Counter.{SixteenBytes}
 use Rattle.generator.specs.Steps.{encode, decode, reseed}
 use Rattle.generator.proofs.Seeds.{joined-fits}
 use borrow.Author.Needs.{needs}
@@ -14,6 +17,9 @@ use Rattle.generator.proofs.Generator.mixed.Tie as tie
 key-long : (c : tie.Start) → length (c .args .self .key) ≡ 32
 key-long c = search needs
 
+counter-held : (c : tie.Start) → SixteenBytes (c .args .self .counter)
+counter-held c = (search needs, λ i. let b : Fits w8 (getD (c .args .self .counter) i 0) = search needs in b .fits)
+
 slice-aggregate-sha-d256-joined : tie.Need-slice-aggregate-sha-d256-joined
 slice-aggregate-sha-d256-joined c = search needs
 
@@ -21,12 +27,14 @@ sha-d256-joined-requires : tie.Need-sha-d256-joined-requires
 sha-d256-joined-requires c κs = search needs
 
 increment-requires : tie.Need-increment-requires
-increment-requires c κs = search needs
+increment-requires c κs =
+    let hashed = c .before .before in
+    counter-held (hashed .before .before .before .before .before)
 
 returns : tie.Need-returns
 unfolding encode reseed decode
 returns c =
-    let hashed = c .before .before in
+    let hashed = c .before .before .before in
     let called = hashed .before .before .before .before .before in
     let a = called .args in
     let key : length (a .self .key) ≡ 32 = key-long called in
@@ -35,10 +43,4 @@ returns c =
     λ i. record { key = digest i; counter = c .increment .ensures i }
 
 pub mixed-spec : {M : Type 1} → statement M
-mixed-spec =
-    tie.close
-    (tie.spec
-    slice-aggregate-sha-d256-joined
-    sha-d256-joined-requires
-    increment-requires
-    returns)
+mixed-spec = tie.close (tie.spec slice-aggregate-sha-d256-joined sha-d256-joined-requires increment-requires returns)

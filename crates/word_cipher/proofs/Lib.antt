@@ -1,0 +1,6 @@
+pub mod Words
+pub mod Entries
+pub mod Rounds
+pub mod Agree
+pub mod Expansion
+pub mod Laws

@@ -1,0 +1,71 @@
+-- Words of four bytes, byte by byte.
+-- Assumes nothing.
+use mathlib.Core.Path.{_≡_, refl, ap, _∙_}
+use mathlib.Core.List.{List, [], _∷_}
+use Prim.Native.Nat.{ℕ, zero, suc, _+_, _*_, _/_, _%_, _<_}
+use native.Mathlib.Nat.{not-suc-le-zero, le-of-suc-le-suc}
+use native.Mathlib.Omega.{arith}
+use lib.Bits.{bitXor, xor-block}
+use lib.ListN.{length}
+use lib.Seq.{ext-getD}
+use Rattle.laws.proofs.Tabulate.{length-tabulate, getD-tabulate}
+use Rattle.cipher.specs.Aes.{at}
+use Rattle.cipher.proofs.Bytes.{Bytes}
+use Rattle.word_cipher.specs.Words.{word, byteOf, wordIn, packed, unpacked}
+
+-- what holds at 0 to 3
+pub four : (P : ℕ → Type 0) → P 0 → P 1 → P 2 → P 3 → (x : ℕ) → x < 4 → P x
+four P p q r s zero h = p
+four P p q r s (suc zero) h = q
+four P p q r s (suc (suc zero)) h = r
+four P p q r s (suc (suc (suc zero))) h = s
+four P p q r s (suc (suc (suc (suc x)))) h =
+    absurd (not-suc-le-zero (le-of-suc-le-suc (le-of-suc-le-suc (le-of-suc-le-suc (le-of-suc-le-suc h)))))
+
+pub list-ext : {a b c d e f g h : ℕ} → a ≡ e → b ≡ f → c ≡ g → d ≡ h → a ∷ b ∷ c ∷ d ∷ [] ≡ e ∷ f ∷ g ∷ h ∷ []
+list-ext p q r s = cc
+
+pub word-ext : {a b c d e f g h : ℕ} → a ≡ e → b ≡ f → c ≡ g → d ≡ h → word a b c d ≡ word e f g h
+word-ext p q r s = cc
+
+-- words are added byte by byte
+pub xor-word : (a b c d e f g h : ℕ) → a < 256 → b < 256 → c < 256 → e < 256 → f < 256 → g < 256
+    → bitXor (word a b c d) (word e f g h) ≡ word (bitXor a e) (bitXor b f) (bitXor c g) (bitXor d h)
+unfolding word
+xor-word a b c d e f g h la lb lc le lf lg =
+    xor-block 8 ((d * 256 + c) * 256 + b) ((h * 256 + g) * 256 + f) a e la le
+    ∙ ap (λ (x : ℕ). x * 256 + bitXor a e)
+    (xor-block 8 (d * 256 + c) (h * 256 + g) b f lb lf ∙ ap (λ (x : ℕ). x * 256 + bitXor b f) (xor-block 8 d h c g lc lg))
+
+-- a word has the bytes that it is made of
+pub bytes-of : (a b c d : ℕ) → a < 256 → b < 256 → c < 256 → d < 256
+    → (byteOf (word a b c d) 0 ≡ a) × (byteOf (word a b c d) 1 ≡ b) × (byteOf (word a b c d) 2 ≡ c) × (byteOf (word a b c d) 3 ≡ d)
+unfolding byteOf word
+bytes-of a b c d la lb lc ld = (omega arith, omega arith, omega arith, omega arith)
+
+pub bytes-in : (s : List ℕ) → Bytes s → (i : ℕ)
+    → (byteOf (wordIn s i) 0 ≡ at s (4 * i)) × (byteOf (wordIn s i) 1 ≡ at s (4 * i + 1))
+    × (byteOf (wordIn s i) 2 ≡ at s (4 * i + 2)) × (byteOf (wordIn s i) 3 ≡ at s (4 * i + 3))
+bytes-in s h i = bytes-of _ _ _ _ (h _) (h _) (h _) (h _)
+
+pub packed-at : (n j : ℕ) (s : List ℕ) → j < n → at (packed n s) j ≡ wordIn s j
+unfolding packed
+packed-at n j s h = getD-tabulate (wordIn s) 0 n j h
+
+-- 16 bytes as words and back
+byte-in : (s : List ℕ) → Bytes s → (i k : ℕ) → k < 4 → byteOf (wordIn s i) k ≡ at s (4 * i + k)
+byte-in s h i =
+    let e = bytes-in s h i in
+    four (λ k. byteOf (wordIn s i) k ≡ at s (4 * i + k)) (e .0 ∙ ap (at s) (omega arith)) (e .1) (e .2) (e .3)
+
+pub unpacks : (s : List ℕ) → Bytes s → length s ≡ 16 → unpacked (packed 4 s) ≡ s
+unfolding unpacked
+unpacks s h l =
+    ext-getD 0 (unpacked (packed 4 s)) s (length-tabulate _ 16 ∙ rw l)
+    (λ i b.
+    let low : i < 16 = rw length-tabulate at b in
+    let place : 4 * (i / 4) + i % 4 ≡ i = omega arith in
+    getD-tabulate (λ j. byteOf (at (packed 4 s) (j / 4)) (j % 4)) 0 16 i low
+    ∙ ap (λ (x : ℕ). byteOf x (i % 4)) (packed-at 4 (i / 4) s (omega arith))
+    ∙ byte-in s h (i / 4) (i % 4) (omega arith)
+    ∙ ap (at s) place)

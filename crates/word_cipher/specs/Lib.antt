@@ -1,0 +1,5 @@
+pub mod Words
+pub mod Tables
+pub mod Cipher
+pub mod Schedule
+pub mod Claims
