@@ -206,32 +206,34 @@ fe4890d1 e6188d0b 046df344 706c631e
 """.split()
 
 
-def add_blocks(cases):
+# The two ciphers, by the letter that their lines begin with
+CIPHERS = [("c", "aes256"), ("w", "aes256 by tables")]
+
+
+def add_blocks(cases, letter, name):
     assert encrypt(C3_KEY, C3_TEXT).hex() == C3_CIPHER
     assert encrypt_blocks(KEY, b"".join(TEXT)).hex() == "".join(ECB)
-    cases.case("ce", C3_KEY + C3_TEXT, "aes256 C.3", C3_CIPHER)
+    cases.case(letter + "e", C3_KEY + C3_TEXT, f"{name} C.3", C3_CIPHER)
     for n, (block, published) in enumerate(zip(TEXT, ECB), 1):
         assert encrypt(KEY, block).hex() == published
-        cases.case("cx", KEY + block, f"aes256 ECB {n}", published)
+        cases.case(letter + "x", KEY + block, f"{name} ECB {n}", published)
     for n, (block, published) in enumerate(zip(TEXT, CTR), 1):
         counter = (COUNTER + n - 1).to_bytes(16, "big")
         assert xor(encrypt(KEY, counter), block).hex() == published
-        cases.case("cx", KEY + counter + block, f"aes256 CTR {n}", published)
+        cases.case(letter + "x", KEY + counter + block, f"{name} CTR {n}", published)
 
 
-def add_schedule(cases):
+def add_schedule(cases, letter, name):
     words = [w.hex() for w in expand_key(KEY)]
     assert words[8:] == A3_WORDS
     for i, word in enumerate(words):
-        cases.case("cw", KEY + bytes([4 * i]), f"aes256 word {i}", word)
+        cases.case(letter + "w", KEY + bytes([i]), f"{name} word {i}", word)
 
 
-def add_parts(cases):
-    """The block writer, into parts of 0 to 18 bytes; what it leaves keeps 0xee."""
-    block = encrypt(KEY, TEXT[0])
-    for n in range(19):
-        part = block[:n].ljust(18, b"\xee")
-        cases.case("cp", KEY + TEXT[0] + bytes([n]), f"aes256 part {n}", part.hex())
+def add_ciphers(cases):
+    for letter, name in CIPHERS:
+        add_blocks(cases, letter, name)
+        add_schedule(cases, letter, name)
 
 
 def all_cases():
@@ -241,9 +243,7 @@ def all_cases():
     add_patterns(cases)
     add_states(cases)
     add_limits(cases)
-    add_blocks(cases)
-    add_schedule(cases)
-    add_parts(cases)
+    add_ciphers(cases)
     generator_lines.add(cases, PATTERN)
     return cases
 

@@ -1,16 +1,13 @@
 -- What crates above cite instead of the definitions' text.
 -- Assumes nothing.
-use Prim.Native.Nat.{ℕ, _≤_}
-use mathlib.Core.Path.{_≡_, refl, _∙_}
+use Prim.Native.Nat.{ℕ}
+use mathlib.Core.Path.{_≡_, refl}
 use mathlib.Core.List.{List}
 use native.Mathlib.Omega.{arith}
-use lib.ListN.{length, take}
-use lib.Seq.{take-all}
-use Rattle.laws.specs.Lists.{overwrite}
+use lib.ListN.{length}
 use Rattle.laws.proofs.Tabulate.{length-tabulate}
 use Rattle.cipher.specs.Aes.{addRoundKey, cipherWith, keyExpansion, cipher}
 pub use Rattle.cipher.proofs.Bytes.{Bytes, bytes-cipher-with, bytes-cipher, bytes-key-expansion}
-use Rattle.laws.proofs.Copy.{overwrite-cut}
 use Rattle.cipher.proofs.Schedule.{length-expand}
 
 -- A block is 16 bytes.
@@ -31,12 +28,3 @@ length-key-expansion key k = let e = length-expand key 52 in omega arith
 pub cipher-with-key : (key block : List ℕ) → cipherWith (keyExpansion key) block ≡ cipher key block
 unfolding cipher
 cipher-with-key key block = refl
-
--- A part of at most 16 bytes holds the block's first bytes afterwards, and one of 16 all of them.
-pub overwrite-block-cut : (part w block : List ℕ) → length part ≤ 16 → overwrite part (cipherWith w block) ≡ take (length part) (cipherWith w block)
-overwrite-block-cut part w block l = overwrite-cut part (cipherWith w block) (rw length-cipher-with l)
-
-pub overwrite-block : (part w block : List ℕ) → length part ≡ 16 → overwrite part (cipherWith w block) ≡ cipherWith w block
-overwrite-block part w block l =
-    let n : length (cipherWith w block) ≡ 16 = length-cipher-with w block in
-    overwrite-block-cut part w block (omega arith) ∙ take-all (length part) (cipherWith w block) (omega arith)

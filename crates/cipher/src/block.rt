@@ -1,7 +1,6 @@
 // A block enciphered.
 ghost use mathlib.Core.Path.{_≡_};
 ghost use Prim.Native.Nat.{_<_};
-ghost use Rattle.laws.specs.Lists.{overwrite};
 ghost use Rattle.cipher.specs.Field.{sBox};
 ghost use Rattle.cipher.specs.Aes.{round, cipherWith, cipher};
 use crate::field::s_box;
@@ -11,7 +10,6 @@ use crate::state::add_round_key;
 use crate::state::mix_columns;
 use crate::state::shift_rows;
 use crate::state::sub_bytes;
-use laws::overwrite;
 
 fn round(table: &[u8; 256], schedule: &[u8; 240], n: usize, state: [u8; 16]) -> [u8; 16]
     requires { ⌜ (n < 15) × (now table ≡ sBox) ⌝ }
@@ -49,12 +47,4 @@ pub fn encrypt(key: [u8; 32], block: [u8; 16]) -> [u8; 16]
     ensures { λ r. ⌜ r ≡ cipher key block ⌝ }
 {
     encrypt_with(expand_key(key), block)
-}
-
-// A block under an expanded key, written to the front of a lent part and cut short where that is shorter.
-pub fn write_block(schedule: Schedule, block: [u8; 16], out: &mut [u8])
-    ensures { λ r. ⌜ now (out .exit) ≡ overwrite (now (out .entry)) (cipherWith (schedule .words) block) ⌝ }
-{
-    let enciphered = encrypt_block(&schedule.words, block);
-    overwrite(out, &enciphered);
 }

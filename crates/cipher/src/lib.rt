@@ -6,7 +6,6 @@ mod state;
 
 pub use block::encrypt;
 pub use block::encrypt_with;
-pub use block::write_block;
 pub use field::s_box;
 pub use key::Schedule;
 pub use key::expand_key;

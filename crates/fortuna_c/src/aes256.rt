@@ -4,27 +4,20 @@ ghost use Rattle.cipher.specs.Aes.{keyExpansion};
 ghost use Rattle.word_cipher.specs.Words.{packed};
 ghost use Rattle.word_cipher.specs.Tables.{tables};
 ghost use Rattle.word_cipher.specs.Cipher.{wordCipher};
-
-#[repr(C)]
-pub struct Aes256Key {
-    pub words: [u32; 60],
-}
+use word_cipher::Schedule;
 
 #[no_mangle]
-pub extern "C" fn fortuna_aes256_expand(key: &[u8; 32]) -> Aes256Key
+pub extern "C" fn fortuna_aes256_expand(key: &[u8; 32]) -> Schedule
     ensures { λ r. ⌜ r .words ≡ packed 60 (keyExpansion (now (key .entry))) ⌝ }
 {
-    let schedule = word_cipher::expand_key(*key);
-    let words = schedule.words;
-    Aes256Key { words }
+    word_cipher::expand_key(*key)
 }
 
 #[no_mangle]
-pub extern "C" fn fortuna_aes256_block(key: Aes256Key, block: &mut [u8; 16])
+pub extern "C" fn fortuna_aes256_block(key: Schedule, block: &mut [u8; 16])
     ensures { λ r. ⌜ now (block .exit) ≡ wordCipher tables (key .words) (now (block .entry)) ⌝ }
 {
     let tables = word_cipher::tables();
-    let words = key.words;
-    let enciphered = word_cipher::encrypt_with(&tables, &words, *block);
+    let enciphered = word_cipher::encrypt_with(&tables, &key.words, *block);
     *block = enciphered;
 }

@@ -8,10 +8,8 @@ mod slot_draws;
 mod station;
 mod whole_log;
 
-pub use aes256::Aes256Key;
 pub use aes256::fortuna_aes256_block;
 pub use aes256::fortuna_aes256_expand;
-pub use aes256_bytewise::Aes256BytewiseKey;
 pub use aes256_bytewise::fortuna_aes256_bytewise_block;
 pub use aes256_bytewise::fortuna_aes256_bytewise_expand;
 pub use fortuna_generator::FortunaGeneratorOutcome;

@@ -3,6 +3,7 @@ pub mod Seeds
 pub mod Parts
 pub mod Steps
 pub mod Accepted
+pub mod UnderKey
 pub mod Effects
 pub mod Statements
 pub mod Boundaries

@@ -25,9 +25,13 @@ blocksFrom key c k = enciphered (cipher key) (counters c k)
 unfoldable pub afterBlocks : GeneratorState → ℕ → GeneratorState
 afterBlocks w k = record { key = w .key; count = w .count + k }
 
--- the bytes of n bytes' blocks, cut to n
+-- n bytes of them: as many blocks as these take, the last cut short
+abbrev pub bytesFrom : List ℕ → ℕ → ℕ → List ℕ
+bytesFrom key c n = take n (blocksFrom key c (blockCount n))
+
+-- the n bytes that a state gives
 unfoldable pub output : GeneratorState → ℕ → List ℕ
-output w n = take n (blocksFrom (w .key) (w .count) (blockCount n))
+output w n = bytesFrom (w .key) (w .count) n
 
 -- K and C after a request of n bytes
 unfoldable pub rekeyed : GeneratorState → ℕ → GeneratorState

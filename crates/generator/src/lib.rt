@@ -8,7 +8,7 @@ pub use answer::Answer;
 use counter::increment;
 use counter::is_spent;
 use laws::all_zero;
-use output::fill;
+use output::fill_both;
 pub use sizes::block_count;
 pub use sizes::max_request;
 ghost use mathlib.Core.Path.{_≡_};
@@ -137,17 +137,15 @@ impl Generator {
     {
         let key = self.key;
         let mut counter = self.counter;
-        let tables = word_cipher::tables();
-        let schedule = word_cipher::expand_key(key);
-        let words = schedule.words;
-        fill(&tables, &words, &mut counter, out);
+        let mut none = [0u8; 0];
+        fill_both(key, &mut counter, out, &mut none);
         Generator {
             key: key,
             counter: counter,
         }
     }
 
-    // The request, where it is accepted. One key expansion and one build of the tables serve output and key blocks.
+    // The request, where it is accepted.
     fn served(self, out: &mut [u8]) -> Generator
         requires { ⌜ decode self .count + (blockCount (length (now out)) + 2) ≤ maxCounter ⌝ }
         ensures { λ r. ⌜ (r ≡ encode (pseudoRandomData (decode self) (length (now (out .entry))) .next))
@@ -155,12 +153,8 @@ impl Generator {
     {
         let key = self.key;
         let mut counter = self.counter;
-        let tables = word_cipher::tables();
-        let schedule = word_cipher::expand_key(key);
-        let words = schedule.words;
-        fill(&tables, &words, &mut counter, out);
         let mut next = [0u8; 32];
-        fill(&tables, &words, &mut counter, &mut next);
+        fill_both(key, &mut counter, out, &mut next);
         Generator {
             key: next,
             counter: counter,

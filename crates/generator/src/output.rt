@@ -8,7 +8,7 @@ ghost use lib.ListN.{length, take};
 ghost use Rattle.word_cipher.specs.Cipher.{wordCipher};
 ghost use Rattle.generator.specs.Counter.{value, littleEndian, SixteenBytes, maxCounter};
 ghost use Rattle.generator.specs.Steps.{blockCount};
-ghost use Rattle.generator.specs.Closed.{counters, enciphered};
+ghost use Rattle.generator.specs.Closed.{counters, enciphered, bytesFrom};
 
 // The end of the part of 16 bytes that starts at `at`, within n.
 fn part_end(at: usize, n: usize) -> usize
@@ -19,9 +19,11 @@ fn part_end(at: usize, n: usize) -> usize
 }
 
 // Fills the buffer with the blocks from the counter on, and leaves the counter that follows.
-pub(crate) fn fill(tables: &[u32; 1024], words: &[u32; 60], counter: &mut [u8; 16], out: &mut [u8])
+fn fill(tables: &[u32; 1024], words: &[u32; 60], counter: &mut [u8; 16], out: &mut [u8])
     requires { ⌜ (value (now counter) + blockCount (length (now out)) ≤ maxCounter) × SixteenBytes (now counter) ⌝ }
-    ensures { λ r. ⌜ (now (counter .exit) ≡ littleEndian 16 (value (now (counter .entry)) + blockCount (length (now (out .entry))))) × (now (out .exit) ≡ take (length (now (out .entry))) (enciphered (wordCipher (now (tables .entry)) (now (words .entry))) (counters (value (now (counter .entry))) (blockCount (length (now (out .entry))))))) ⌝ }
+    ensures { λ r. ⌜ (now (counter .exit) ≡ littleEndian 16 (value (now (counter .entry)) + blockCount (length (now (out .entry)))))
+        × (now (out .exit) ≡ take (length (now (out .entry))) (enciphered (wordCipher (now (tables .entry)) (now (words .entry)))
+        (counters (value (now (counter .entry))) (blockCount (length (now (out .entry))))))) ⌝ }
 {
     let mut k: usize = 0;
     while k < (out.len() + 15) / 16 {
@@ -32,4 +34,20 @@ pub(crate) fn fill(tables: &[u32; 1024], words: &[u32; 60], counter: &mut [u8; 1
         increment(counter);
         k = k + 1;
     }
+}
+
+// Fills two buffers in turn with the blocks under the key from the counter on, and leaves the counter that follows. The tables
+// are built once and the key is expanded once, for both.
+pub(crate) fn fill_both(key: [u8; 32], counter: &mut [u8; 16], out: &mut [u8], more: &mut [u8])
+    requires { ⌜ (value (now counter) + (blockCount (length (now out)) + blockCount (length (now more))) ≤ maxCounter)
+        × SixteenBytes (now counter) ⌝ }
+    ensures { λ r. ⌜ (now (counter .exit) ≡ littleEndian 16 (value (now (counter .entry))
+        + (blockCount (length (now (out .entry))) + blockCount (length (now (more .entry))))))
+        × (now (out .exit) ≡ bytesFrom key (value (now (counter .entry))) (length (now (out .entry))))
+        × (now (more .exit) ≡ bytesFrom key (value (now (counter .entry)) + blockCount (length (now (out .entry)))) (length (now (more .entry)))) ⌝ }
+{
+    let tables = word_cipher::tables();
+    let schedule = word_cipher::expand_key(key);
+    fill(&tables, &schedule.words, counter, out);
+    fill(&tables, &schedule.words, counter, more);
 }

@@ -44,10 +44,9 @@ fn least(letter: u8, call: u8) -> usize {
             b'j' => 32,
             _ => MOST + 1,
         },
-        b'c' => match call {
+        b'c' | b'w' => match call {
             b'w' => 33,
             b'e' | b'x' => 48,
-            b'p' => 49,
             _ => MOST + 1,
         },
         b'G' => match call {
@@ -85,8 +84,8 @@ fn called(letter: u8, call: u8, data: &[u8], held: Held, out: &mut [u8; ROOM]) -
         hashes::answer(call, data, hasher);
         return held;
     }
-    if letter == b'c' {
-        ciphers::answer(call, data);
+    if letter == b'c' || letter == b'w' {
+        ciphers::answer(letter, call, data);
         return held;
     }
     if letter == b'H' {

@@ -17,7 +17,7 @@ use Rattle.cipher.specs.Aes.{at, wordAt, xorWord, subWord, rotWord, rcon, xPowe
 use Rattle.cipher.proofs.Bytes.{Bytes, bytes-xor-word, bytes-sub-word, bytes-rcon, bytes-word-at, bytes-key-expansion}
 use Rattle.cipher.proofs.Schedule.{key-front, next-at}
 use Rattle.word_cipher.specs.Words.{word, byteOf, wordIn, packed}
-use Rattle.word_cipher.specs.Schedule.{subWords, rotatedTemp, fourMore}
+use Rattle.word_cipher.specs.Schedule.{subWords, rotatedTemp, fourMore, Expands}
 use Rattle.word_cipher.proofs.Words.{xor-word, word-ext, bytes-in, packed-at}
 
 -- ---- a word of the schedule of bytes as a number
@@ -227,10 +227,9 @@ grown-more w₀ w w₁ w₂ i r p (low, high, q, l, g) h er e1 ep e2 =
           rw (m, ← e2) at (plain-four key n b w₁ (i + 4) p (omega arith) (omega arith) (omega arith) l1 s1 (rw k at ep)),
     )
 
-pub grown-all : (key w₀ w w₁ : List ℕ) (i r : ℕ) → Grown w₀ w i → 56 ≤ i → length key ≡ 32 → Bytes key → take 8 w₀ ≡ packed 8 key
-    → r ≡ rotatedTemp 56 (at w 55) → w₁ ≡ fourMore w 56 r → w₁ ≡ packed 60 (keyExpansion key)
+pub grown-all : (w₀ w w₁ : List ℕ) (i r : ℕ) → Grown w₀ w i → 56 ≤ i → r ≡ rotatedTemp 56 (at w 55) → w₁ ≡ fourMore w 56 r → Expands w₀ w₁
 unfolding packed
-grown-all key w₀ w w₁ i r (low, high, q, l, g) h n b e er e1 =
+grown-all w₀ w w₁ i r (low, high, q, l, g) h er e1 key n b e =
     let i56 : i ≡ 56 = omega arith in
     let s : List ℕ = keyExpansion key in
     let s0 : Stored s w 56 = rw i56 at (g key n b e) in

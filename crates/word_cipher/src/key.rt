@@ -1,11 +1,11 @@
 // The key schedule as 60 words.
 ghost use mathlib.Core.Path.{_≡_};
 ghost use Prim.Native.Nat.{_<_, _≤_, _-_};
-ghost use lib.ListN.{length, take};
+ghost use lib.ListN.{length};
 ghost use Rattle.cipher.specs.Field.{subByte, sBox};
 ghost use Rattle.cipher.specs.Aes.{xPower, keyExpansion};
 ghost use Rattle.word_cipher.specs.Words.{wordIn, packed};
-ghost use Rattle.word_cipher.specs.Schedule.{subWords, rotatedTemp, fourMore};
+ghost use Rattle.word_cipher.specs.Schedule.{subWords, rotatedTemp, fourMore, Expands};
 use crate::word::byte_of;
 use crate::word::word_of;
 
@@ -67,37 +67,38 @@ fn key_word(key: [u8; 32], i: usize) -> u32
     word_of(key[4 * i], key[4 * i + 1], key[4 * i + 2], key[4 * i + 3])
 }
 
-// A schedule whose first words are the key's; the others are still 0.
-fn load(key: [u8; 32]) -> [u32; 60]
-    ensures { λ r. ⌜ take 8 r ≡ packed 8 key ⌝ }
+// Words 8 to 59, from the key's own: eight a turn.
+fn grow(words: &mut [u32; 60])
+    requires { ⌜ length (now words) ≡ 60 ⌝ }
+    ensures { λ r. ⌜ Expands (now (words .entry)) (now (words .exit)) ⌝ }
+{
+    let s = cipher::s_box();
+    let mut i: usize = 8;
+    while i < 56 {
+        let rotated = rotated_temp(&s, i, words[i - 1]);
+        four_more(words, i, rotated);
+        let plain = sub_word(&s, words[i + 3], 0, 1, 2, 3);
+        four_more(words, i + 4, plain);
+        i = i + 8;
+    }
+    let last = rotated_temp(&s, 56, words[55]);
+    four_more(words, 56, last);
+}
+
+// An expanded key as words: 15 round keys of four.
+#[repr(C)]
+pub struct Schedule {
+    pub words: [u32; 60],
+}
+
+// KeyExpansion.
+pub fn expand_key(key: [u8; 32]) -> Schedule
+    ensures { λ r. ⌜ r .words ≡ packed 60 (keyExpansion key) ⌝ }
 {
     let mut words = [0u32; 60];
     for k in 0..8 {
         words[k] = key_word(key, k);
     }
-    words
-}
-
-// An expanded key as words: 15 round keys of four.
-pub struct Schedule {
-    pub words: [u32; 60],
-}
-
-// KeyExpansion, eight words a turn.
-pub fn expand_key(key: [u8; 32]) -> Schedule
-    ensures { λ r. ⌜ r .words ≡ packed 60 (keyExpansion key) ⌝ }
-{
-    let s = cipher::s_box();
-    let mut words = load(key);
-    let mut i: usize = 8;
-    while i < 56 {
-        let rotated = rotated_temp(&s, i, words[i - 1]);
-        four_more(&mut words, i, rotated);
-        let plain = sub_word(&s, words[i + 3], 0, 1, 2, 3);
-        four_more(&mut words, i + 4, plain);
-        i = i + 8;
-    }
-    let last = rotated_temp(&s, 56, words[55]);
-    four_more(&mut words, 56, last);
+    grow(&mut words);
     Schedule { words }
 }

@@ -1,52 +1,45 @@
 -- `generator::Generator::filled` meets its contract.
 -- Assumes nothing.
+use Prim.Native.Nat.{_+_}
+use mathlib.Core.Path.{ap, _∙_}
+use native.Mathlib.Omega.{arith}
 use mir.Val.{Fits}
 use mir.Syntax.{w8}
-use lib.ListN.{getD}
-use Rattle.cipher.proofs.Laws.{Bytes}
-use Rattle.generator.specs.Counter.{SixteenBytes}
-use Rattle.generator.specs.Steps.{decode}
+use lib.ListN.{length, getD}
+use Rattle.generator.specs.Counter.{SixteenBytes, littleEndian}
+use Rattle.generator.specs.Steps.{decode, blockCount}
 use Rattle.generator.proofs.Effects.{blocks-next, blocks-bytes}
 use borrow.Author.Needs.{needs}
 use Rattle.generator.proofs.Generator.filled.Statement.{statement}
 use Rattle.generator.proofs.Generator.filled.Tie as tie
 
-key-bytes : (c : tie.Start) → Bytes (c .args .self .key)
-key-bytes c = λ i. let b : Fits w8 (getD (c .args .self .key) i 0) = search needs in b .fits
-
 counter-held : (c : tie.Start) → SixteenBytes (c .args .self .counter)
 counter-held c = (search needs, λ i. let b : Fits w8 (getD (c .args .self .counter) i 0) = search needs in b .fits)
 
-tables-requires : tie.Need-tables-requires
-tables-requires c κs = search needs
+slice-aggregate-fill-both : tie.Need-slice-aggregate-fill-both
+slice-aggregate-fill-both c = search needs
 
-expand-key-requires : tie.Need-expand-key-requires
-expand-key-requires c κs = search needs
-
-fill-requires : tie.Need-fill-requires
-unfolding decode
-fill-requires c κs =
-    let expanded = c .before .before .before .before .before in
-    let start = expanded .before .before .before .before .before in
-    (start .pre, counter-held start)
+fill-both-requires : tie.Need-fill-both-requires
+unfolding decode blockCount
+fill-both-requires c κs =
+    let held = c .before .before .before in
+    let start = held .before .before .before in
+    let room = start .pre in
+    (omega arith, counter-held start)
 
 same-length : tie.Need-same-length
 same-length c = search needs
 
 returns : tie.Need-returns
+unfolding blockCount
 returns c =
-    let filled = c .before .before in
-    let lent = filled .before .before .before in
-    let expanded = lent .before .before .before in
-    let tabled = expanded .before in
-    let start = tabled .before .before .before .before in
+    let filled = c .before .before .before in
+    let held = filled .before .before .before .before in
+    let start = held .before .before .before in
     let g = start .args .self in
-    let t = tabled .tables in
-    let w = expanded .expand-key in
-    let f = filled .fill .ensures in (
-      blocks-next g (t .result) (w .result .words) (t .ensures) (w .ensures) (key-bytes start) _ _ (f .0),
-      blocks-bytes g (t .result) (w .result .words) (t .ensures) (w .ensures) (key-bytes start) _ _ (f .1),
-    )
+    let n = length (start .args .out .now) in
+    let f = filled .fill-both .ensures in
+    (blocks-next g n _ (f .0 ∙ ap (littleEndian 16) (omega arith)), blocks-bytes g n _ (f .1))
 
 pub filled-spec : {M : Type 1} → statement M
-filled-spec = tie.close (tie.spec tables-requires expand-key-requires fill-requires same-length returns)
+filled-spec = tie.close (tie.spec slice-aggregate-fill-both fill-both-requires same-length returns)
