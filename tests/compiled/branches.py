@@ -8,8 +8,10 @@ length is data, a repeated instruction, and a call of a function that is not loo
 constants alone (constants.py). Reads at a place that data picks, such as look-ups in a table, are counted and not refused. How
 long an instruction takes is not looked at.
 
-Without a FUNCTION, those that work on the key's bits are looked at, and no other function may have the number by which the
-field's doubling reduces: a second copy of the cipher, built into its caller, would not be looked at."""
+Without a FUNCTION, those that work on the key's bits are looked at: the block and the key expansion of the cipher by
+tables, the two C functions into which those of the byte-wise cipher are built, and the hash's block. No other function
+may have the number by which the field's doubling reduces, or read in four tables of words side by side: a second copy
+of a cipher, built into its caller, would not be looked at."""
 import argparse
 import re
 import subprocess
@@ -21,8 +23,15 @@ from constants import SHIFTS, NotFollowed, accounts, condition
 from disassembly import functions
 
 CASES = Path(__file__).with_suffix(".s")
-KEYED = ["cipher::block::encrypt_block", "cipher::key::expand_key", "hash::block::compress"]
+KEYED = [
+    "word_cipher::block::encrypt_with",
+    "word_cipher::key::expand_key",
+    "fortuna_aes256_bytewise_block",
+    "fortuna_aes256_bytewise_expand",
+    "hash::block::compress",
+]
 POLYNOMIAL = "0x1b"
+TABLE = 4 * 256  # bytes of a table of words
 BLOCK_MOVES = {"memcpy", "memmove", "memset"}
 
 
@@ -72,13 +81,30 @@ def examine(name, body, named):
     return [f"{name}+{step.address - body[0].address:#x}: {step.text}: {why}" for step, why in refused]
 
 
-def copies(found, named):
-    """Where a function that is not named has the polynomial as an operand, other than to shift by."""
-    return [
-        f"{name}: {step.text}: the doubling, in a function that is not looked at"
-        for name, body in found.items()
+def tables_read(body):
+    """Whether a function reads, at places that registers pick, in four tables of words that lie side by side."""
+    read = {
+        int(far or "0", 16)
         for step in body
-        if name not in named and POLYNOMIAL in step.operands and step.name not in SHIFTS
+        if step.name != "lea"
+        for far in re.findall(r"\+\w+\*[14]([+-]0x[0-9a-f]+)?\]", " ".join(step.operands))
+    }
+    return any(all(first + n * TABLE in read for n in range(4)) for first in read)
+
+
+def copies(found, named):
+    """Where a function that is not named has the polynomial, other than to shift by, or reads in four tables."""
+    others = {name: body for name, body in found.items() if name not in named}
+    doublings = [
+        f"{name}: {step.text}: the doubling, in a function that is not looked at"
+        for name, body in others.items()
+        for step in body
+        if POLYNOMIAL in step.operands and step.name not in SHIFTS
+    ]
+    return doublings + [
+        f"{name}: look-ups in four tables of words, in a function that is not looked at"
+        for name, body in others.items()
+        if tables_read(body)
     ]
 
 
@@ -93,7 +119,8 @@ def self_test():
         refused, _ = refusals(found[name], [name])
         told = "; ".join(f"{step.text.split()[0]}: {why}" for step, why in refused) or "passes"
         assert told == said, f"{name}: {told}, in place of {said}"
-    assert [each.split(":")[0] for each in copies(found, [])] == ["arithmetic on the top bit", "a choice by the top bit"]
+    told = [each.split(":")[0] for each in copies(found, [])]
+    assert told == ["arithmetic on the top bit", "a choice by the top bit", "a column by four tables"], told
     assert copies(found, found) == []
     print(f"branches: {len(expected)} functions told apart")
 

@@ -55,6 +55,38 @@
     ret
 
 # passes
+"a counter beside a bit that is turned":
+    xor ecx, ecx
+    xor edx, edx
+1:  btc edi, edx
+    add rcx, 8
+    inc edx
+    cmp rcx, 0x30
+    jb 1b
+    ret
+
+# passes
+"a column by four tables":
+    movzx eax, dl
+    mov eax, DWORD PTR [rsi+rax*4]
+    movzx ecx, dh
+    xor eax, DWORD PTR [rsi+rcx*4+0x400]
+    shr edi, 14
+    and edi, 0x3fc
+    xor eax, DWORD PTR [rsi+rdi+0x800]
+    shr r8d, 24
+    xor eax, DWORD PTR [rsi+r8*4+0xc00]
+    ret
+
+# passes
+"three tables, and the place of a fourth":
+    mov eax, DWORD PTR [rsi+rdi*4-0x400]
+    xor eax, DWORD PTR [rsi+rdi*4]
+    xor eax, DWORD PTR [rsi+rdi*4+0x400]
+    lea rdi, [rsi+rdi*4+0x800]
+    ret
+
+# passes
 "a constant below data on the stack":
     mov eax, 3
     push rax
@@ -173,6 +205,27 @@
     mov al, 3
     decide eax
 
+# jb: is decided by data
+"a counter of which data turns a bit":
+    xor ecx, ecx
+1:  btc ecx, edi
+    add rcx, 8
+    cmp rcx, 0x30
+    jb 1b
+    ret
+
+# je: is decided by data
+"a bit of data turned":
+    mov eax, edi
+    btc eax, 3
+    decide eax
+
+# je: is decided by data
+"the frame written where a bit lies that data picks":
+    mov QWORD PTR [rsp-8], 3
+    btc DWORD PTR [rsp-16], edi
+    decide "QWORD PTR [rsp-8]"
+
 # je: is decided by data
 "data in a sum":
     mov eax, 3
@@ -231,6 +284,14 @@
     mov ecx, 3
     cmp ecx, 3
     rol edi, 1
+    jb 1f
+1:  ret
+
+# jb: is decided by data
+"the carry of a bit that is asked for":
+    mov ecx, 3
+    cmp ecx, 3
+    bt edi, 3
     jb 1f
 1:  ret
 

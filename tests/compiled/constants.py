@@ -10,6 +10,7 @@ MOVES = {"mov", "movabs", "movzx", "movsx", "movsxd"}
 SUMS = {"add", "sub", "and", "or", "xor", "imul", "neg"}
 SHIFTS = {"shl", "shr", "sar"}
 TURNS = {"rol", "ror", "not", "bswap"}
+BITS = {"bt", "btc", "btr", "bts"}
 NOTHING = {"nop", "endbr64"}
 ENDS = {"ret", "jmp", "ud2", "hlt", "int3"}
 FLAGS = {"carry", "other flags"}
@@ -144,7 +145,7 @@ def computed(account, step):
     elif name in SUMS and (name != "imul" or len(operands) > 1) or name in SHIFTS and operands[-1] != "cl":
         account.write(operands[0], constant or itself)
         account.mark(FLAGS, constant or itself)
-    elif name in TURNS:
+    elif name in TURNS or name in BITS and operands[0] in REGISTERS:  # in memory a bit may lie outside the operand
         account.write(operands[0], constant)
         account.mark(FLAGS, False)
     elif condition(name) is not None:
