@@ -16,6 +16,7 @@ static uint8_t *stack;
 static fortuna_state state;
 static fortuna_generator generator;
 static fortuna_aes256_key expanded;
+static fortuna_aes256_bytewise_key bytewise_expanded;
 static uint8_t data[ROOM], out[ROOM], seed[SEED];
 static uint16_t list[LIST];
 static fortuna_health health;
@@ -102,6 +103,8 @@ static void sha256(void) { fortuna_sha256(data, 1000, out); }
 static void sha_d256(void) { fortuna_sha_d256(data, 1000, out); }
 static void expand(void) { expanded = fortuna_aes256_expand(data); }
 static void block(void) { fortuna_aes256_block(expanded, out); }
+static void bytewise_expand(void) { bytewise_expanded = fortuna_aes256_bytewise_expand(data); }
+static void bytewise_block(void) { fortuna_aes256_bytewise_block(bytewise_expanded, out); }
 static void generator_new(void) { generator = fortuna_generator_new(); }
 static void generator_reseed(void) { fortuna_generator_reseed_at(&generator, data, 1000); }
 static void generator_blocks(void) { fortuna_generator_blocks_at(&generator, out, 1000); }
@@ -160,6 +163,8 @@ static const struct {
     {"fortuna_sha_d256", seeded, sha_d256, false},
     {"fortuna_aes256_expand", seeded, expand, false},
     {"fortuna_aes256_block", seeded, block, false},
+    {"fortuna_aes256_bytewise_expand", seeded, bytewise_expand, false},
+    {"fortuna_aes256_bytewise_block", seeded, bytewise_block, false},
     {"fortuna_generator_new", seeded, generator_new, false},
     {"fortuna_generator_reseed", seeded, generator_reseed, false},
     {"fortuna_generator_blocks", seeded, generator_blocks, false},

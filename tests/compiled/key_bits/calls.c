@@ -58,7 +58,14 @@ static void generator_calls(void)
     done("generator's blocks", fortuna_generator_blocks_at(&g, output, OUTPUT));
     done("generator's reseed", fortuna_generator_reseed_at(&g, output, OUTPUT));
     done("generator's request", fortuna_generator_request_at(&g, output, OUTPUT));
+}
+
+/* Both ciphers, under a key of the caller's own. */
+static void cipher_calls(void)
+{
+    const fortuna_generator g = station().generator;
     fortuna_aes256_block(fortuna_aes256_expand(g.key), output);
+    fortuna_aes256_bytewise_block(fortuna_aes256_bytewise_expand(g.key), output);
 }
 
 /* A seed update by a page of FF but for its last byte, all of it unknown to memcheck. */
@@ -81,6 +88,7 @@ int main(int count, char **words)
     } else {
         station_calls();
         generator_calls();
+        cipher_calls();
     }
     return 0;
 }
