@@ -24,28 +24,36 @@
    Stack. On x86-64 a call needs at most this many bytes of stack, the caller's copy of what it returns included
    (tests/compiled/footprint.py measures it; docs/BENCHMARKS.md has the figures):
 
-       fortuna_sha256               2,048
-       fortuna_sha_d256             2,048
-       fortuna_aes256_expand        1,280
-       fortuna_aes256_block         1,024
-       fortuna_generator_new          256
-       fortuna_generator_reseed     2,560
-       fortuna_generator_blocks     1,536
-       fortuna_generator_request    1,536
-       fortuna_new                 12,288
-       fortuna_event                9,216
-       fortuna_request             39,936
-       fortuna_update              43,008
-       fortuna_write               39,936
-       fortuna_random_below        50,176
-       fortuna_shuffle             50,176
-       fortuna_log                266,240
-       fortuna_health_new             256
-       fortuna_health_test            256
+       fortuna_sha256                   2,048
+       fortuna_sha_d256                 2,048
+       fortuna_aes256_expand            1,280
+       fortuna_aes256_block             5,120
+       fortuna_aes256_bytewise_expand   1,024
+       fortuna_aes256_bytewise_block    1,024
+       fortuna_generator_new              256
+       fortuna_generator_reseed         2,560
+       fortuna_generator_blocks         5,632
+       fortuna_generator_request        5,632
+       fortuna_new                     12,288
+       fortuna_event                    9,216
+       fortuna_request                 43,008
+       fortuna_update                  46,080
+       fortuna_write                   43,008
+       fortuna_random_below            53,248
+       fortuna_shuffle                 53,248
+       fortuna_log                    270,336
+       fortuna_health_new                 256
+       fortuna_health_test                256
 
    The library wipes no memory. After a call copies of the state's key K are left on the stack below the caller, also
    of the K that the next call starts from. Where others may read that memory, wipe it, or run the calls on a stack of
    their own.
+
+   Traces. No branch in the ciphers goes by key or data, but both read tables at places that key and data pick, and a
+   trace of the power or of the cache may tell those places. The calls that draw from a state or from the generator
+   encipher by four tables of words, 4 KB, always. The cipher that goes byte by byte reads the 256 bytes of the S-box: a
+   smaller leak, not none. It is there for firmware that enciphers under keys of its own where such traces matter
+   (fortuna_aes256_bytewise_block).
 
    Numbers returned: FORTUNA_DONE, or the number of a refusal, the first in the order of the list below where more
    than one applies. After a refusal buffers and state are as before; pools emptied are 0. FORTUNA_NONE_DRAWN differs:
@@ -122,16 +130,39 @@ uint32_t fortuna_sha256(const uint8_t *data, size_t length, uint8_t digest[32]);
    Returns FORTUNA_DONE or FORTUNA_TOO_LONG. */
 uint32_t fortuna_sha_d256(const uint8_t *data, size_t length, uint8_t digest[32]);
 
-/* An expanded AES-256 key: the 60 words of FIPS 197's key expansion, 4 bytes each. */
+/* ---- AES-256 encryption (FIPS 197), by two ciphers that agree on every key and block
+
+   fortuna_aes256_.. goes by tables and is the faster: docs/BENCHMARKS.md has both. fortuna_aes256_bytewise_.. goes byte
+   by byte, for keys of your own where traces matter: 'Traces' at the top of this file says why. */
+
+/* An expanded key for the cipher by tables: the 60 words of FIPS 197's key expansion. words[i] is w[i], whose first
+   byte is the least significant.
+
+   THIS TYPE CHANGED WITH THE TABLES. Before it was uint8_t words[240]. On a little-endian machine, which x86-64 is, the
+   240 bytes in memory are the same, so a kept value stays good. But code that reads bytes by their index compiles as
+   before and reads elsewhere: what was words[4 * i + j] is (uint8_t)(words[i] >> 8 * j), and where memcpy took
+   words + 4 * i it takes words + i. */
 typedef struct {
-    uint8_t words[240];
+    uint32_t words[60];
 } fortuna_aes256_key;
 
 /* The key expansion (FIPS 197, 5.2) of the 32 bytes at key. */
 fortuna_aes256_key fortuna_aes256_expand(const uint8_t key[32]);
 
-/* Enciphers the 16 bytes at block in place (FIPS 197, 5.1). Any 240 bytes may stand in the key. */
+/* Enciphers the 16 bytes at block in place (FIPS 197, 5.1), by tables that each call builds on its stack. Any 60 words
+   may stand in the key. */
 void fortuna_aes256_block(fortuna_aes256_key key, uint8_t block[16]);
+
+/* An expanded key for the cipher that goes byte by byte: the same 60 words, 4 bytes each, in FIPS 197's order. */
+typedef struct {
+    uint8_t words[240];
+} fortuna_aes256_bytewise_key;
+
+/* The key expansion (FIPS 197, 5.2) of the 32 bytes at key. */
+fortuna_aes256_bytewise_key fortuna_aes256_bytewise_expand(const uint8_t key[32]);
+
+/* Enciphers the 16 bytes at block in place (FIPS 197, 5.1), byte by byte. Any 240 bytes may stand in the key. */
+void fortuna_aes256_bytewise_block(fortuna_aes256_bytewise_key key, uint8_t block[16]);
 
 /* The generator alone (Fortuna, 9.4). Any bytes may stand in it. The counter is held least significant byte first,
    and 0 means unseeded. */
