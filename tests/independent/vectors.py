@@ -230,10 +230,19 @@ def add_schedule(cases, letter, name):
         cases.case(letter + "w", KEY + bytes([i]), f"{name} word {i}", word)
 
 
+def add_parts(cases):
+    """The block writer by tables, into parts of 0 to 18 bytes; what it leaves keeps 0xee."""
+    block = encrypt(KEY, TEXT[0])
+    for n in range(19):
+        part = block[:n].ljust(18, b"\xee")
+        cases.case("wp", KEY + TEXT[0] + bytes([n]), f"aes256 by tables part {n}", part.hex())
+
+
 def add_ciphers(cases):
     for letter, name in CIPHERS:
         add_blocks(cases, letter, name)
         add_schedule(cases, letter, name)
+    add_parts(cases)
 
 
 def all_cases():

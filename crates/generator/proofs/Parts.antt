@@ -9,8 +9,6 @@ use native.Mathlib.Decide.{decLe}
 use native.Mathlib.Omega.{arith}
 use lib.ListN.{length, take, drop, length-append, length-drop, drop-of-length-le}
 use lib.Seq.{take-all, take-at, drop-at, drop-drop, take-append-add, drop-length}
-use Rattle.laws.specs.Lists.{overwrite}
-use Rattle.laws.proofs.Copy.{overwrite-cut}
 use Rattle.generator.specs.Counter.{counterBlock}
 use Rattle.generator.specs.Closed.{counters, enciphered}
 
@@ -94,10 +92,3 @@ module _ (f : List ℕ → List ℕ) (size : (b : List ℕ) → length (f b) ≡
 pub over-none : (f : List ℕ → List ℕ) (c : ℕ) (d : List ℕ) → d ≡ over (enciphered f (counters c 0)) d
 unfolding enciphered counters
 over-none f c d = sym (take-all (length d) d (omega arith))
-
--- a block laid over a part of at most 16 bytes is cut to it
-pub cut-block : (f : List ℕ → List ℕ) → ((b : List ℕ) → length (f b) ≡ 16) → (part block b : List ℕ) (m : ℕ) → length part ≡ m → m ≤ 16 → block ≡ f b
-    → overwrite part block ≡ take m (f b)
-cut-block f size part block b m l h e =
-    let n : length (f b) ≡ 16 = size b in
-    ap (overwrite part) e ∙ overwrite-cut part (f b) (omega arith) ∙ ap (λ (k : ℕ). take k (f b)) l

@@ -1,7 +1,6 @@
 // Blocks of the cipher, written straight into the parts of a lent buffer.
 use crate::counter::increment;
-use laws::overwrite;
-use word_cipher::encrypt_with;
+use word_cipher::write_block;
 ghost use mathlib.Core.Path.{_≡_};
 ghost use Prim.Native.Nat.{_+_, _-_, _≤_, min};
 ghost use lib.ListN.{length, take};
@@ -29,8 +28,7 @@ fn fill(tables: &[u32; 1024], words: &[u32; 60], counter: &mut [u8; 16], out: &m
     while k < (out.len() + 15) / 16 {
         let at = 16 * k;
         let end = part_end(at, out.len());
-        let block = encrypt_with(tables, words, *counter);
-        overwrite(&mut out[at..end], &block);
+        write_block(tables, words, *counter, &mut out[at..end]);
         increment(counter);
         k = k + 1;
     }

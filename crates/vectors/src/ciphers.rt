@@ -47,6 +47,27 @@ fn bytewise(call: u8, key: [u8; 32], block: [u8; 16], data: &[u8]) {
     lines::bytes(b"", &c);
 }
 
+// The block writer, into the first n bytes.
+fn write_part(tables: &[u32; 1024], words: &[u32; 60], block: [u8; 16], out: &mut [u8], n: usize) {
+    if n > out.len() {
+        return;
+    }
+    word_cipher::write_block(tables, words, block, &mut out[..n]);
+}
+
+// By tables, under the expanded key: x with a mask added, p cut short in 18 bytes, which keep 0xee behind it.
+fn enciphered(call: u8, words: [u32; 60], block: [u8; 16], rest: &[u8]) {
+    let tables = word_cipher::tables();
+    if call == b'x' {
+        let c = masked(word_cipher::encrypt_with(&tables, &words, block), rest);
+        lines::bytes(b"", &c);
+        return;
+    }
+    let mut out = [0xeeu8; 18];
+    write_part(&tables, &words, block, &mut out, number(rest) as usize);
+    lines::bytes(b"", &out);
+}
+
 // The same by tables.
 fn by_tables(call: u8, key: [u8; 32], block: [u8; 16], data: &[u8]) {
     if call == b'e' {
@@ -61,12 +82,7 @@ fn by_tables(call: u8, key: [u8; 32], block: [u8; 16], data: &[u8]) {
         lines::bytes(b"", &word);
         return;
     }
-    let tables = word_cipher::tables();
-    let c = masked(
-        word_cipher::encrypt_with(&tables, &words, block),
-        after(data, 48),
-    );
-    lines::bytes(b"", &c);
+    enciphered(call, words, block, after(data, 48));
 }
 
 // Prints what the cipher that the letter names answers.

@@ -44,9 +44,15 @@ fn least(letter: u8, call: u8) -> usize {
             b'j' => 32,
             _ => MOST + 1,
         },
-        b'c' | b'w' => match call {
+        b'c' => match call {
             b'w' => 33,
             b'e' | b'x' => 48,
+            _ => MOST + 1,
+        },
+        b'w' => match call {
+            b'w' => 33,
+            b'e' | b'x' => 48,
+            b'p' => 49,
             _ => MOST + 1,
         },
         b'G' => match call {

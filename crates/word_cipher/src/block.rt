@@ -1,6 +1,7 @@
 // A block enciphered: rounds of table look-ups.
 ghost use mathlib.Core.Path.{_≡_};
 ghost use Prim.Native.Nat.{_<_};
+ghost use Rattle.laws.specs.Lists.{overwrite};
 ghost use Rattle.cipher.specs.Aes.{cipher};
 ghost use Rattle.word_cipher.specs.Words.{wordIn, packed, unpacked};
 ghost use Rattle.word_cipher.specs.Cipher.{mixedWord, substituted, lastWord, addWords, wordRound, lastRound, wordCipher};
@@ -8,6 +9,7 @@ use crate::key::expand_key;
 use crate::table::tables;
 use crate::word::byte_of;
 use crate::word::word_of;
+use laws::overwrite;
 
 // A mixed column, from the words that hold its four bytes.
 fn mixed_word(t: &[u32; 1024], p: u32, q: u32, r: u32, s: u32) -> u32
@@ -103,6 +105,14 @@ pub fn encrypt_with(t: &[u32; 1024], w: &[u32; 60], block: [u8; 16]) -> [u8; 16]
         n = n + 2;
     }
     unpack(last_round(t, w, round(t, w, 13, u)))
+}
+
+// A block under an expanded key, written to the front of a lent part and cut short where that is shorter.
+pub fn write_block(t: &[u32; 1024], w: &[u32; 60], block: [u8; 16], out: &mut [u8])
+    ensures { λ r. ⌜ now (out .exit) ≡ overwrite (now (out .entry)) (wordCipher (now (t .entry)) (now (w .entry)) block) ⌝ }
+{
+    let enciphered = encrypt_with(t, w, block);
+    overwrite(out, &enciphered);
 }
 
 // A block under a key.

@@ -6,6 +6,7 @@ mod word;
 
 pub use block::encrypt;
 pub use block::encrypt_with;
+pub use block::write_block;
 pub use key::Schedule;
 pub use key::expand_key;
 pub use table::tables;

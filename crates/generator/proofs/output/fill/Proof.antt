@@ -6,12 +6,12 @@ use native.Mathlib.Nat.{add-zero, add-assoc}
 use native.Mathlib.Omega.{arith}
 use lib.ListN.{length, take, drop, length-take, length-drop}
 use Rattle.word_cipher.specs.Cipher.{wordCipher}
-use Rattle.word_cipher.proofs.Laws.{length-word-cipher}
+use Rattle.word_cipher.proofs.Laws.{length-word-cipher, overwrite-block}
 use Rattle.generator.specs.Counter.{value, littleEndian, maxCounter, counterBlock}
 use Rattle.generator.specs.Steps.{blockCount}
 use Rattle.generator.specs.Closed.{counters, enciphered}
 use Rattle.generator.proofs.Digits.{counter-value, value-counter, sixteen}
-use Rattle.generator.proofs.Parts.{over, over-none, over-full, part-filled, cut-block}
+use Rattle.generator.proofs.Parts.{over, over-none, over-full, part-filled}
 use borrow.Author.Needs.{needs}
 use Rattle.generator.proofs.output.fill.Statement.{statement}
 use Rattle.generator.proofs.output.fill.Tie as tie
@@ -41,29 +41,23 @@ part-end-requires : tie.Need-part-end-requires Inv-loop μ-loop
 unfolding blockCount
 part-end-requires c κs = omega arith
 
-encrypt-with-requires : tie.Need-encrypt-with-requires Inv-loop μ-loop
-encrypt-with-requires c κs = search needs
+sub-write-block : tie.Need-sub-write-block Inv-loop μ-loop
+sub-write-block c = search needs
 
-sub-overwrite : tie.Need-sub-overwrite Inv-loop μ-loop
-sub-overwrite c = search needs
+part-write-block-start : tie.Need-part-write-block-start Inv-loop μ-loop
+part-write-block-start c = search needs
 
-part-overwrite-start : tie.Need-part-overwrite-start Inv-loop μ-loop
-part-overwrite-start c = search needs
+part-write-block-end : tie.Need-part-write-block-end Inv-loop μ-loop
+part-write-block-end c = search needs
 
-part-overwrite-end : tie.Need-part-overwrite-end Inv-loop μ-loop
-part-overwrite-end c = search needs
-
-slice-aggregate-overwrite : tie.Need-slice-aggregate-overwrite Inv-loop μ-loop
-slice-aggregate-overwrite c = search needs
-
-overwrite-requires : tie.Need-overwrite-requires Inv-loop μ-loop
-overwrite-requires c κs = search needs
+write-block-requires : tie.Need-write-block-requires Inv-loop μ-loop
+write-block-requires c κs = search needs
 
 increment-requires : tie.Need-increment-requires Inv-loop μ-loop
 increment-requires c κs =
     let written = c .before .before .before in
-    let enciphered = written .before .before .before in
-    sixteen _ _ (enciphered .before .before .before .before .loop .inv .3)
+    let ended = written .before .before .before in
+    sixteen _ _ (ended .before .before .loop .inv .3)
 
 add-k : tie.Need-add-k Inv-loop μ-loop
 unfolding blockCount
@@ -77,23 +71,22 @@ loop-again : tie.Need-loop-again Inv-loop μ-loop
 unfolding blockCount counterBlock
 loop-again c =
     let written = c .before .before .before .before in
-    let enciphered = written .before .before .before in
-    let ended = enciphered .before .before in
+    let ended = written .before .before .before in
     let turn = ended .before .before in
-    let l = turn .loop in
     let start = turn .before .before in
     let out₀ = start .args .out .now in
     let t = start .args .tables .now in
     let w = start .args .words .now in
     let v = value (start .args .counter .now) in
+    let l = turn .loop in
     let k = l .k in
     let end = ended .part-end .result in
     let part = take (end - 16 * k) (drop (16 * k) (l .out)) in
-    let ys = written .overwrite .last .0 in
+    let ys = written .write-block .last .1 .1 .1 .0 in
     let limit : v + k ≤ maxCounter = omega arith in
     let size : length part ≡ end - 16 * k = simp (length-take, length-drop) (omega arith) in
-    let cut = cut-block (wordCipher t w) (length-word-cipher t w) part _ (l .counter) (end - 16 * k) size (omega arith) (enciphered .encrypt-with .ensures) in
-    let block : ys ≡ take (end - 16 * k) (wordCipher t w (littleEndian 16 (v + k))) = written .overwrite .ensures ∙ cut ∙ rw (l .inv .3) in (
+    let block : ys ≡ take (end - 16 * k) (wordCipher t w (littleEndian 16 (v + k))) =
+    written .write-block .ensures ∙ overwrite-block part t w (l .counter) (omega (arith, size)) ∙ rw (size, l .inv .3) in (
       omega arith,
       search needs,
       part-filled (wordCipher t w) (length-word-cipher t w) v k end out₀ (l .out) ys (l .inv .2) (omega arith) (omega arith) block,
@@ -125,12 +118,10 @@ fill-spec =
     add-loop
     mul-at
     part-end-requires
-    encrypt-with-requires
-    sub-overwrite
-    part-overwrite-start
-    part-overwrite-end
-    slice-aggregate-overwrite
-    overwrite-requires
+    sub-write-block
+    part-write-block-start
+    part-write-block-end
+    write-block-requires
     increment-requires
     add-k
     loop-less
