@@ -1,7 +1,7 @@
 """AES-256 encryption, written from FIPS 197.
 
-`encrypt` is the standard's text, a block at a time. `encrypt_blocks` gives the same for many blocks under one key
-and is some hundred times as fast."""
+`cipher` is the standard's text, a block at a time, under any 15 round keys. `cipher_blocks` gives the same for many
+blocks and is some hundred times as fast. `encrypt` and `encrypt_blocks` take the round keys of a key."""
 import operator
 from functools import lru_cache
 
@@ -50,10 +50,14 @@ def expand_key(key):
     return words
 
 
+def split(schedule):
+    """The 15 round keys of a schedule's 240 bytes, which need not be those of a key."""
+    return [schedule[i : i + 16] for i in range(0, 240, 16)]
+
+
 @lru_cache(maxsize=4)
 def round_keys(key):
-    words = expand_key(key)
-    return [b"".join(words[i : i + 4]) for i in range(0, 60, 4)]
+    return split(b"".join(expand_key(key)))
 
 
 DOUBLE = bytes(product(2, b) for b in range(256))
@@ -64,9 +68,8 @@ def mix_column(c):
     return bytes(DOUBLE[c[r]] ^ TRIPLE[c[(r + 1) % 4]] ^ c[(r + 2) % 4] ^ c[(r + 3) % 4] for r in range(4))
 
 
-def encrypt(key, block):
+def cipher(keys, block):
     """5.1."""
-    keys = round_keys(key)
     state = xor(block, keys[0])
     for n in range(1, 15):
         state = bytes(S_BOX[b] for b in state)
@@ -77,9 +80,13 @@ def encrypt(key, block):
     return state
 
 
+def encrypt(key, block):
+    return cipher(round_keys(key), block)
+
+
 # ---- many blocks at once: byte i of every block stands in plane i, and a step works on whole planes
 
-FEW = 4  # up to here `encrypt` is as fast
+FEW = 4  # up to here `cipher` is as fast
 
 
 def number(plane):
@@ -96,13 +103,12 @@ def mix_planes(planes):
     return mixed
 
 
-def encrypt_blocks(key, blocks):
-    """The joined blocks, enciphered and joined; the first and the last are held to `encrypt`."""
+def cipher_blocks(keys, blocks):
+    """The joined blocks, enciphered and joined; the first and the last are held to `cipher`."""
     count = len(blocks) // 16
     if count <= FEW:
-        return b"".join(encrypt(key, blocks[i : i + 16]) for i in range(0, len(blocks), 16))
+        return b"".join(cipher(keys, blocks[i : i + 16]) for i in range(0, len(blocks), 16))
     ones = number(b"\x01" * count)
-    keys = round_keys(key)
     planes = [number(blocks[i::16]) ^ keys[0][i] * ones for i in range(16)]
     for n in range(1, 15):
         state = [p.to_bytes(count, "little").translate(S_BOX) for p in planes]
@@ -112,6 +118,10 @@ def encrypt_blocks(key, blocks):
     out = bytearray(16 * count)
     for i, p in enumerate(planes):
         out[i::16] = p.to_bytes(count, "little")
-    assert out[:16] == encrypt(key, blocks[:16])
-    assert out[-16:] == encrypt(key, blocks[-16:])
+    assert out[:16] == cipher(keys, blocks[:16])
+    assert out[-16:] == cipher(keys, blocks[-16:])
     return bytes(out)
+
+
+def encrypt_blocks(key, blocks):
+    return cipher_blocks(round_keys(key), blocks)
