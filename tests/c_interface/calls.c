@@ -6,6 +6,12 @@
 
 static uint8_t large[1048577];
 
+/* The key of FIPS 197, A.3, and of SP 800-38A's examples F.1.5 and F.5.5. */
+static const uint8_t published_key[32] = {
+    0x60, 0x3d, 0xeb, 0x10, 0x15, 0xca, 0x71, 0xbe, 0x2b, 0x73, 0xae, 0xf0, 0x85, 0x7d, 0x77, 0x81,
+    0x1f, 0x35, 0x2c, 0x07, 0x3b, 0x61, 0x08, 0xd7, 0x2d, 0x98, 0x10, 0xa3, 0x09, 0x14, 0xdf, 0xf4,
+};
+
 static void hexadecimal(const uint8_t *bytes, size_t length)
 {
     for (size_t i = 0; i < length; i++)
@@ -90,17 +96,13 @@ static void from_seed(size_t length)
         }
 }
 
-/* C from 2^128 - 5 to 2^128 - 1, under the key of SP 800-38A's examples. */
+/* C from 2^128 - 5 to 2^128 - 1, under the published key. */
 static void near_the_end(void)
 {
-    static const uint8_t key[32] = {
-        0x60, 0x3d, 0xeb, 0x10, 0x15, 0xca, 0x71, 0xbe, 0x2b, 0x73, 0xae, 0xf0, 0x85, 0x7d, 0x77, 0x81,
-        0x1f, 0x35, 0x2c, 0x07, 0x3b, 0x61, 0x08, 0xd7, 0x2d, 0x98, 0x10, 0xa3, 0x09, 0x14, 0xdf, 0xf4,
-    };
     char title[40];
     fortuna_generator state;
     for (int below = 5; below > 0; below--) {
-        memcpy(state.key, key, sizeof key);
+        memcpy(state.key, published_key, sizeof published_key);
         memset(state.counter, 0xff, sizeof state.counter);
         state.counter[0] = (uint8_t)(256 - below);
         snprintf(title, sizeof title, "2^128 - %d", below);
@@ -121,6 +123,100 @@ static void large_buffers(void)
     request("seed 3", &state, large, 1048577);
 }
 
+/* ---- the published lines of the cipher, of which the library has two */
+
+typedef struct {
+    void (*words)(const uint8_t key[32], uint8_t words[240]);
+    void (*block)(const uint8_t key[32], uint8_t block[16]);
+} cipher;
+
+static void tables_words(const uint8_t key[32], uint8_t words[240])
+{
+    fortuna_aes256_key expanded = fortuna_aes256_expand(key);
+    for (int i = 0; i < 240; i++)
+        words[i] = (uint8_t)(expanded.words[i / 4] >> 8 * (i % 4));
+}
+
+static void tables_block(const uint8_t key[32], uint8_t block[16])
+{
+    fortuna_aes256_block(fortuna_aes256_expand(key), block);
+}
+
+static void bytewise_words(const uint8_t key[32], uint8_t words[240])
+{
+    fortuna_aes256_bytewise_key expanded = fortuna_aes256_bytewise_expand(key);
+    memcpy(words, expanded.words, 240);
+}
+
+static void bytewise_block(const uint8_t key[32], uint8_t block[16])
+{
+    fortuna_aes256_bytewise_block(fortuna_aes256_bytewise_expand(key), block);
+}
+
+static const cipher by_tables = {tables_words, tables_block}, byte_by_byte = {bytewise_words, bytewise_block};
+
+static void cipher_line(const char *title, int n, const uint8_t *bytes, size_t length)
+{
+    printf("aes256 %s %d: ", title, n);
+    hexadecimal(bytes, length);
+    printf("\n");
+}
+
+/* FIPS 197, C.3: bytes that count up. */
+static void counting_up(cipher c)
+{
+    uint8_t key[32], block[16];
+    for (int i = 0; i < 32; i++)
+        key[i] = (uint8_t)i;
+    for (int i = 0; i < 16; i++)
+        block[i] = (uint8_t)(0x11 * i);
+    c.block(key, block);
+    printf("aes256 C.3: ");
+    hexadecimal(block, sizeof block);
+    printf("\n");
+}
+
+/* FIPS 197, A.3. */
+static void schedule(cipher c)
+{
+    uint8_t words[240];
+    c.words(published_key, words);
+    for (int i = 0; i < 60; i++)
+        cipher_line("word", i, words + 4 * i, 4);
+}
+
+/* SP 800-38A, F.1.5 and F.5.5. The counter starts at f0f1..ff, and only its last two bytes change. */
+static void modes(cipher c)
+{
+    static const uint8_t text[4][16] = {
+        {0x6b, 0xc1, 0xbe, 0xe2, 0x2e, 0x40, 0x9f, 0x96, 0xe9, 0x3d, 0x7e, 0x11, 0x73, 0x93, 0x17, 0x2a},
+        {0xae, 0x2d, 0x8a, 0x57, 0x1e, 0x03, 0xac, 0x9c, 0x9e, 0xb7, 0x6f, 0xac, 0x45, 0xaf, 0x8e, 0x51},
+        {0x30, 0xc8, 0x1c, 0x46, 0xa3, 0x5c, 0xe4, 0x11, 0xe5, 0xfb, 0xc1, 0x19, 0x1a, 0x0a, 0x52, 0xef},
+        {0xf6, 0x9f, 0x24, 0x45, 0xdf, 0x4f, 0x9b, 0x17, 0xad, 0x2b, 0x41, 0x7b, 0xe6, 0x6c, 0x37, 0x10},
+    };
+    for (int n = 0; n < 4; n++) {
+        uint8_t block[16], counter[16];
+        memcpy(block, text[n], sizeof block);
+        c.block(published_key, block);
+        cipher_line("ECB", n + 1, block, sizeof block);
+        for (int i = 0; i < 16; i++)
+            counter[i] = (uint8_t)(0xf0 + i);
+        counter[15] = (uint8_t)(0xff + n);
+        counter[14] = (uint8_t)(0xfe + (n > 0));
+        c.block(published_key, counter);
+        for (int i = 0; i < 16; i++)
+            counter[i] ^= text[n][i];
+        cipher_line("CTR", n + 1, counter, sizeof counter);
+    }
+}
+
+static void published(cipher c)
+{
+    counting_up(c);
+    schedule(c);
+    modes(c);
+}
+
 int main(void)
 {
     static const size_t seeds[] = {0, 1, 32, 64, 100};
@@ -132,5 +228,7 @@ int main(void)
     each_call("malformed 0", state);
     near_the_end();
     large_buffers();
+    published(by_tables);
+    published(byte_by_byte);
     return 0;
 }
