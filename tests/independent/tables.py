@@ -14,8 +14,8 @@ CONSTANT = re.compile(r"^const TABLES: \[u32; 1024\] = \[$(.*?)^\];$", re.M | re
 
 
 def word(row, x):
-    """What x in a row of the state gives to its column: substituted (5.1.1) and mixed (5.1.3), with 0 in the other rows.
-    A column is the sum of what its four bytes give. The first byte is the least significant."""
+    """What x in a row of the state gives to its column: substituted (5.1.1) and mixed (5.1.3), with 0 in the other
+    rows. A column is the sum of what its four bytes give. The first byte is the least significant."""
     column = bytearray(4)
     column[row] = S_BOX[x]
     return int.from_bytes(mix_column(column), "little")
