@@ -206,8 +206,8 @@ fe4890d1 e6188d0b 046df344 706c631e
 """.split()
 
 
-# The two ciphers, by the letter that their lines begin with
-CIPHERS = [("c", "aes256"), ("w", "aes256 by tables")]
+# The two ciphers: the letter that their lines begin with, the title, and how far apart words are named
+CIPHERS = [("c", "aes256", 4), ("w", "aes256 by tables", 1)]
 
 
 def add_blocks(cases, letter, name):
@@ -223,11 +223,12 @@ def add_blocks(cases, letter, name):
         cases.case(letter + "x", KEY + counter + block, f"{name} CTR {n}", published)
 
 
-def add_schedule(cases, letter, name):
+def add_schedule(cases, letter, name, step):
+    """Byte by byte a word is named by the place of its first byte, by tables by its number."""
     words = [w.hex() for w in expand_key(KEY)]
     assert words[8:] == A3_WORDS
     for i, word in enumerate(words):
-        cases.case(letter + "w", KEY + bytes([i]), f"{name} word {i}", word)
+        cases.case(letter + "w", KEY + bytes([step * i]), f"{name} word {i}", word)
 
 
 def add_parts(cases):
@@ -239,9 +240,9 @@ def add_parts(cases):
 
 
 def add_ciphers(cases):
-    for letter, name in CIPHERS:
+    for letter, name, step in CIPHERS:
         add_blocks(cases, letter, name)
-        add_schedule(cases, letter, name)
+        add_schedule(cases, letter, name, step)
     add_parts(cases)
 
 

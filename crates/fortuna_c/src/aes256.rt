@@ -1,9 +1,7 @@
 // AES-256 by tables of words, under an expanded key that the caller holds.
 ghost use mathlib.Core.Path.{_≡_};
-ghost use Rattle.cipher.specs.Aes.{keyExpansion};
-ghost use Rattle.word_cipher.specs.Words.{packed};
-ghost use Rattle.word_cipher.specs.Tables.{tables};
-ghost use Rattle.word_cipher.specs.Cipher.{wordCipher};
+ghost use Rattle.cipher.specs.Aes.{keyExpansion, cipherWith};
+ghost use Rattle.word_cipher.specs.Words.{packed, unpacked};
 use word_cipher::Schedule;
 
 #[no_mangle]
@@ -15,9 +13,8 @@ pub extern "C" fn fortuna_aes256_expand(key: &[u8; 32]) -> Schedule
 
 #[no_mangle]
 pub extern "C" fn fortuna_aes256_block(key: Schedule, block: &mut [u8; 16])
-    ensures { λ r. ⌜ now (block .exit) ≡ wordCipher tables (key .words) (now (block .entry)) ⌝ }
+    ensures { λ r. ⌜ now (block .exit) ≡ cipherWith (unpacked 240 (key .words)) (now (block .entry)) ⌝ }
 {
-    let tables = word_cipher::tables();
-    let enciphered = word_cipher::encrypt_with(&tables, &key.words, *block);
+    let enciphered = word_cipher::encrypt_under(key, *block);
     *block = enciphered;
 }

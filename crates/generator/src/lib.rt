@@ -136,12 +136,12 @@ impl Generator {
             × (now (out .exit) ≡ blockData (decode self) (length (now (out .entry))) .bytes) ⌝ }
     {
         let key = self.key;
-        let mut counter = self.counter;
+        let counter = self.counter;
         let mut none = [0u8; 0];
-        fill_both(key, &mut counter, out, &mut none);
+        let after = fill_both(key, counter, out, &mut none);
         Generator {
             key: key,
-            counter: counter,
+            counter: after,
         }
     }
 
@@ -152,12 +152,12 @@ impl Generator {
             × (now (out .exit) ≡ pseudoRandomData (decode self) (length (now (out .entry))) .bytes) ⌝ }
     {
         let key = self.key;
-        let mut counter = self.counter;
+        let counter = self.counter;
         let mut next = [0u8; 32];
-        fill_both(key, &mut counter, out, &mut next);
+        let after = fill_both(key, counter, out, &mut next);
         Generator {
             key: next,
-            counter: counter,
+            counter: after,
         }
     }
 

@@ -34,18 +34,23 @@ fn fill(tables: &[u32; 1024], words: &[u32; 60], counter: &mut [u8; 16], out: &m
     }
 }
 
-// Fills two buffers in turn with the blocks under the key from the counter on, and leaves the counter that follows. The tables
+// Fills two buffers in turn with the blocks under the key from the counter on, and gives the counter that follows. The tables
 // are built once and the key is expanded once, for both.
-pub(crate) fn fill_both(key: [u8; 32], counter: &mut [u8; 16], out: &mut [u8], more: &mut [u8])
-    requires { ⌜ (value (now counter) + (blockCount (length (now out)) + blockCount (length (now more))) ≤ maxCounter)
-        × SixteenBytes (now counter) ⌝ }
-    ensures { λ r. ⌜ (now (counter .exit) ≡ littleEndian 16 (value (now (counter .entry))
-        + (blockCount (length (now (out .entry))) + blockCount (length (now (more .entry))))))
-        × (now (out .exit) ≡ bytesFrom key (value (now (counter .entry))) (length (now (out .entry))))
-        × (now (more .exit) ≡ bytesFrom key (value (now (counter .entry)) + blockCount (length (now (out .entry)))) (length (now (more .entry)))) ⌝ }
+pub(crate) fn fill_both(
+    key: [u8; 32],
+    counter: [u8; 16],
+    out: &mut [u8],
+    more: &mut [u8],
+) -> [u8; 16]
+    requires { ⌜ value counter + (blockCount (length (now out)) + blockCount (length (now more))) ≤ maxCounter ⌝ }
+    ensures { λ r. ⌜ (r ≡ littleEndian 16 (value counter + (blockCount (length (now (out .entry))) + blockCount (length (now (more .entry))))))
+        × (now (out .exit) ≡ bytesFrom key (value counter) (length (now (out .entry))))
+        × (now (more .exit) ≡ bytesFrom key (value counter + blockCount (length (now (out .entry)))) (length (now (more .entry)))) ⌝ }
 {
     let tables = word_cipher::tables();
     let schedule = word_cipher::expand_key(key);
-    fill(&tables, &schedule.words, counter, out);
-    fill(&tables, &schedule.words, counter, more);
+    let mut next = counter;
+    fill(&tables, &schedule.words, &mut next, out);
+    fill(&tables, &schedule.words, &mut next, more);
+    next
 }

@@ -25,11 +25,12 @@ fn word_bytes(words: [u32; 60], i: usize) -> [u8; 4] {
         (w % 256) as u8,
         (w / 256 % 256) as u8,
         (w / 65536 % 256) as u8,
-        (w / 16777216) as u8,
+        (w / 16777216 % 256) as u8,
     ]
 }
 
-// Byte by byte: a block under the key (e), word n of the expanded key (w), a block under the expanded key with a mask added (x).
+// Byte by byte: a block under the key (e), 4 bytes of the expanded key from a place on (w), a block under the expanded key with a mask
+// added (x).
 fn bytewise(call: u8, key: [u8; 32], block: [u8; 16], data: &[u8]) {
     if call == b'e' {
         let c = cipher::encrypt(key, block);
@@ -39,7 +40,7 @@ fn bytewise(call: u8, key: [u8; 32], block: [u8; 16], data: &[u8]) {
     let schedule = cipher::expand_key(key);
     if call == b'w' {
         let words = schedule.words;
-        let place = 4 * number(front(after(data, 32), 1)) as usize;
+        let place = number(after(data, 32)) as usize;
         lines::bytes(b"", front(after(&words, place), 4));
         return;
     }
@@ -68,7 +69,7 @@ fn enciphered(call: u8, words: [u32; 60], block: [u8; 16], rest: &[u8]) {
     lines::bytes(b"", &out);
 }
 
-// The same by tables.
+// By tables: the same, with the number of a word where that has a place (w), and the block writer (p).
 fn by_tables(call: u8, key: [u8; 32], block: [u8; 16], data: &[u8]) {
     if call == b'e' {
         let c = word_cipher::encrypt(key, block);
@@ -78,7 +79,7 @@ fn by_tables(call: u8, key: [u8; 32], block: [u8; 16], data: &[u8]) {
     let schedule = word_cipher::expand_key(key);
     let words = schedule.words;
     if call == b'w' {
-        let word = word_bytes(words, number(front(after(data, 32), 1)) as usize);
+        let word = word_bytes(words, number(after(data, 32)) as usize);
         lines::bytes(b"", &word);
         return;
     }

@@ -15,7 +15,7 @@ use Rattle.word_cipher.specs.Words.{word, wordIn, packed, unpacked}
 use Rattle.word_cipher.specs.Tables.{entry, tables}
 use Rattle.word_cipher.specs.Cipher.{mixedWord, lastWord, columns, addWords, wordRound, lastRound, wordRounds, wordCipher}
 use Rattle.word_cipher.specs.Claims.{SchedulesAgree}
-use Rattle.word_cipher.proofs.Words.{list-ext, word-ext, xor-word, bytes-in, packed-at, unpacks}
+use Rattle.word_cipher.proofs.Words.{list-ext, word-ext, xor-word, bytes-in, packed-at, unpacks, packs, bytes-unpacked}
 use Rattle.word_cipher.proofs.Entries.{entry-at, substitutes, mix, spreads}
 
 -- ---- a column, whose bytes of rows 0 to 3 stand in words i, j, k and l of the state
@@ -106,14 +106,20 @@ length-added : (w s : List ℕ) (n : ℕ) → length (addRoundKey w n s) ≡ 16
 unfolding addRoundKey
 length-added w s n = length-tabulate _ 16
 
-pub schedules-agree : SchedulesAgree
+-- under a schedule of bytes
+pub agrees : (w s : List ℕ) → Bytes w → Bytes s → wordCipher tables (packed 60 w) s ≡ cipherWith w s
 unfolding wordCipher cipherWith
-schedules-agree w s p h =
+agrees w s p h =
     let s₀ : List ℕ = addRoundKey w 0 s in
     let s₁ : List ℕ = rounds w 13 s₀ in
     let s₂ : List ℕ = shiftRows (subBytes s₁) in
     let h₀ : Bytes s₀ = bytes-added w s 0 p h in
-    ap (λ (u : List ℕ). unpacked (lastRound tables (packed 60 w) u))
+    ap (λ (u : List ℕ). unpacked 16 (lastRound tables (packed 60 w) u))
     (ap (wordRounds tables (packed 60 w) 13) (added w s 0 (lit< tt) p h) ∙ rounds-agree w s₀ 13 (lit< tt) p h₀)
-    ∙ ap unpacked (last-agrees w s₁ p (bytes-rounds w s₀ 13 p h₀))
-    ∙ unpacks (addRoundKey w 14 s₂) (bytes-added w s₂ 14 p (bytes-shifted s₁)) (length-added w s₂ 14)
+    ∙ ap (unpacked 16) (last-agrees w s₁ p (bytes-rounds w s₀ 13 p h₀))
+    ∙ unpacks 4 (addRoundKey w 14 s₂) (bytes-added w s₂ 14 p (bytes-shifted s₁)) (length-added w s₂ 14)
+
+-- under any words: they are those of their bytes
+pub schedules-agree : SchedulesAgree
+schedules-agree w s l b h =
+    ap (λ (v : List ℕ). wordCipher tables v s) (sym (packs 60 w l b)) ∙ agrees (unpacked 240 w) s (bytes-unpacked 240 w) h

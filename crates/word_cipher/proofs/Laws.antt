@@ -13,11 +13,12 @@ use Rattle.cipher.proofs.Laws.{cipher-with-key}
 use Rattle.word_cipher.specs.Words.{unpacked}
 use Rattle.word_cipher.specs.Cipher.{wordCipher}
 use Rattle.word_cipher.specs.Claims.{CiphersAgree}
-use Rattle.word_cipher.proofs.Agree.{schedules-agree}
+use Rattle.word_cipher.proofs.Agree.{agrees}
+pub use Rattle.word_cipher.proofs.Agree.{schedules-agree}
 
 -- Both ciphers agree on every key and every block.
 pub ciphers-agree : CiphersAgree
-ciphers-agree key block p h = schedules-agree (keyExpansion key) block (bytes-key-expansion key p) h ∙ cipher-with-key key block
+ciphers-agree key block p h = agrees (keyExpansion key) block (bytes-key-expansion key p) h ∙ cipher-with-key key block
 
 -- A block is 16 bytes.
 pub length-word-cipher : (t w block : List ℕ) → length (wordCipher t w block) ≡ 16

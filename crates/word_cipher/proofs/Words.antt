@@ -2,16 +2,18 @@
 -- Assumes nothing.
 use mathlib.Core.Path.{_≡_, refl, ap, _∙_}
 use mathlib.Core.List.{List, [], _∷_}
-use Prim.Native.Nat.{ℕ, zero, suc, _+_, _*_, _/_, _%_, _<_}
+use Prim.Native.Nat.{ℕ, zero, suc, _+_, _*_, _/_, _%_, _^_, _<_}
 use native.Mathlib.Nat.{not-suc-le-zero, le-of-suc-le-suc}
 use native.Mathlib.Omega.{arith}
 use lib.Bits.{bitXor, xor-block}
 use lib.ListN.{length}
 use lib.Seq.{ext-getD}
+use Rattle.laws.specs.Lists.{tabulate}
 use Rattle.laws.proofs.Tabulate.{length-tabulate, getD-tabulate}
 use Rattle.cipher.specs.Aes.{at}
-use Rattle.cipher.proofs.Bytes.{Bytes}
+use Rattle.cipher.proofs.Bytes.{Bytes, bytes-tabulate}
 use Rattle.word_cipher.specs.Words.{word, byteOf, wordIn, packed, unpacked}
+use Rattle.word_cipher.specs.Claims.{WordsRow}
 
 -- what holds at 0 to 3
 pub four : (P : ℕ → Type 0) → P 0 → P 1 → P 2 → P 3 → (x : ℕ) → x < 4 → P x
@@ -52,20 +54,69 @@ pub packed-at : (n j : ℕ) (s : List ℕ) → j < n → at (packed n s) j ≡ w
 unfolding packed
 packed-at n j s h = getD-tabulate (wordIn s) 0 n j h
 
--- 16 bytes as words and back
+-- bytes as words and back
 byte-in : (s : List ℕ) → Bytes s → (i k : ℕ) → k < 4 → byteOf (wordIn s i) k ≡ at s (4 * i + k)
 byte-in s h i =
     let e = bytes-in s h i in
     four (λ k. byteOf (wordIn s i) k ≡ at s (4 * i + k)) (e .0 ∙ ap (at s) (omega arith)) (e .1) (e .2) (e .3)
 
-pub unpacks : (s : List ℕ) → Bytes s → length s ≡ 16 → unpacked (packed 4 s) ≡ s
+pub unpacked-at : (n i : ℕ) (u : List ℕ) → i < n → at (unpacked n u) i ≡ byteOf (at u (i / 4)) (i % 4)
 unfolding unpacked
-unpacks s h l =
-    ext-getD 0 (unpacked (packed 4 s)) s (length-tabulate _ 16 ∙ rw l)
+unpacked-at n i u h = getD-tabulate (λ j. byteOf (at u (j / 4)) (j % 4)) 0 n i h
+
+pub length-unpacked : (n : ℕ) (u : List ℕ) → length (unpacked n u) ≡ n
+unfolding unpacked
+length-unpacked n u = length-tabulate _ n
+
+pub bytes-unpacked : (n : ℕ) (u : List ℕ) → Bytes (unpacked n u)
+unfolding unpacked byteOf
+bytes-unpacked n u = bytes-tabulate _ n (λ i. omega arith)
+
+pub unpacks : (n : ℕ) (s : List ℕ) → Bytes s → length s ≡ 4 * n → unpacked (4 * n) (packed n s) ≡ s
+unpacks n s h l =
+    ext-getD 0 (unpacked (4 * n) (packed n s)) s (length-unpacked (4 * n) (packed n s) ∙ rw l)
     (λ i b.
-    let low : i < 16 = rw length-tabulate at b in
+    let low : i < 4 * n = rw length-unpacked at b in
     let place : 4 * (i / 4) + i % 4 ≡ i = omega arith in
-    getD-tabulate (λ j. byteOf (at (packed 4 s) (j / 4)) (j % 4)) 0 16 i low
-    ∙ ap (λ (x : ℕ). byteOf x (i % 4)) (packed-at 4 (i / 4) s (omega arith))
+    unpacked-at (4 * n) i (packed n s) low
+    ∙ ap (λ (x : ℕ). byteOf x (i % 4)) (packed-at n (i / 4) s (omega arith))
     ∙ byte-in s h (i / 4) (i % 4) (omega arith)
     ∙ ap (at s) place)
+
+-- words as bytes and back
+last-byte : (x : ℕ) → x / 256 * 256 + x % 256 ≡ x
+last-byte x = omega arith
+
+word-of-bytes : (x : ℕ) → x < 2 ^ 32 → word (byteOf x 0) (byteOf x 1) (byteOf x 2) (byteOf x 3) ≡ x
+unfolding byteOf word
+word-of-bytes x h =
+    let second : x / 2 ^ 16 ≡ x / 256 / 256 = omega arith in
+    let third : x / 2 ^ 24 % 256 ≡ x / 256 / 256 / 256 = omega arith in
+    let whole : x / 2 ^ 0 ≡ x = omega arith in
+    rw (third, second, whole, last-byte (x / 256 / 256), last-byte (x / 256)) (last-byte x)
+
+unpacked-byte : (n j k i : ℕ) (u : List ℕ) → i < n → i ≡ 4 * j + k → k < 4 → at (unpacked n u) i ≡ byteOf (at u j) k
+unpacked-byte n j k i u h e l =
+    let word-place : i / 4 ≡ j = omega arith in
+    let byte-place : i % 4 ≡ k = omega arith in
+    unpacked-at n i u h ∙ rw (word-place, byte-place) refl
+
+unpacked-word : (n j : ℕ) (u : List ℕ) → j < n → at u j < 2 ^ 32 → wordIn (unpacked (4 * n) u) j ≡ at u j
+unpacked-word n j u h b =
+    word-ext (unpacked-byte (4 * n) j 0 (4 * j) u (omega arith) (omega arith) (omega arith))
+    (unpacked-byte (4 * n) j 1 (4 * j + 1) u (omega arith) refl (omega arith))
+    (unpacked-byte (4 * n) j 2 (4 * j + 2) u (omega arith) refl (omega arith))
+    (unpacked-byte (4 * n) j 3 (4 * j + 3) u (omega arith) refl (omega arith))
+    ∙ word-of-bytes (at u j) b
+
+pub packs : (n : ℕ) (u : List ℕ) → length u ≡ n → ((i : ℕ) → at u i < 2 ^ 32) → packed n (unpacked (4 * n) u) ≡ u
+unfolding packed
+packs n u l b =
+    ext-getD 0 (packed n (unpacked (4 * n) u)) u (length-tabulate _ n ∙ rw l)
+    (λ j h.
+    let low : j < n = rw length-tabulate at h in
+    packed-at n j (unpacked (4 * n) u) low ∙ unpacked-word n j u low (b j))
+
+pub words-row : WordsRow
+unfolding packed unpacked tabulate word byteOf
+words-row = (refl, refl)

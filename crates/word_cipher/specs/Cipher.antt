@@ -43,4 +43,4 @@ wordRounds t w (suc n) u = wordRound t w (suc n) (wordRounds t w n u)
 
 -- A block enciphered with the tables t under the schedule w: round key 0, 13 rounds and the last.
 unfoldable pub wordCipher : List ℕ → List ℕ → List ℕ → List ℕ
-wordCipher t w block = unpacked (lastRound t w (wordRounds t w 13 (addWords w 0 (packed 4 block))))
+wordCipher t w block = unpacked 16 (lastRound t w (wordRounds t w 13 (addWords w 0 (packed 4 block))))

@@ -1,12 +1,12 @@
 -- What is proved beside the contracts, in the words of FIPS 197.
 -- Assumes nothing.
-use Prim.Native.Nat.{ℕ, _+_, _*_, _<_}
+use Prim.Native.Nat.{ℕ, _+_, _*_, _^_, _<_}
 use mathlib.Core.Path.{_≡_}
-use mathlib.Core.List.{List}
-use lib.ListN.{set, replicate}
+use mathlib.Core.List.{List, [], _∷_}
+use lib.ListN.{length, set, replicate}
 use Rattle.cipher.specs.Field.{subByte}
 use Rattle.cipher.specs.Aes.{at, mixColumns, keyExpansion, cipherWith, cipher}
-use Rattle.word_cipher.specs.Words.{wordIn, packed}
+use Rattle.word_cipher.specs.Words.{wordIn, packed, unpacked}
 use Rattle.word_cipher.specs.Tables.{tables}
 use Rattle.word_cipher.specs.Cipher.{wordCipher}
 
@@ -19,12 +19,21 @@ alone k s = set (replicate 16 0) k s
 abbrev pub TablesRule : Type 0
 TablesRule = (k x : ℕ) → k < 4 → x < 256 → at tables (256 * k + x) ≡ wordIn (mixColumns (alone k (subByte x))) 0
 
--- Both ciphers agree on every block of bytes, under every schedule of bytes.
-abbrev pub SchedulesAgree : Type 0
-SchedulesAgree = (w block : List ℕ) → ((i : ℕ) → at w i < 256) → ((i : ℕ) → at block i < 256)
-    → wordCipher tables (packed 60 w) block ≡ cipherWith w block
+-- Every element is a byte.
+abbrev pub AllBytes : List ℕ → Type 0
+AllBytes s = (i : ℕ) → at s i < 256
 
 -- Both ciphers agree on every key and every block.
 abbrev pub CiphersAgree : Type 0
-CiphersAgree = (key block : List ℕ) → ((i : ℕ) → at key i < 256) → ((i : ℕ) → at block i < 256)
+CiphersAgree = (key block : List ℕ) → AllBytes key → AllBytes block
     → wordCipher tables (packed 60 (keyExpansion key)) block ≡ cipher key block
+
+-- They agree under whatever 60 words of 32 bits stand in the schedule, those of no key too.
+abbrev pub SchedulesAgree : Type 0
+SchedulesAgree = (w block : List ℕ) → length w ≡ 60 → ((i : ℕ) → at w i < 2 ^ 32) → AllBytes block
+    → wordCipher tables w block ≡ cipherWith (unpacked 240 w) block
+
+-- A word's first byte is the least significant.
+abbrev pub WordsRow : Type 0
+WordsRow = (packed 2 (0x00 ∷ 0x11 ∷ 0x22 ∷ 0x33 ∷ 0x44 ∷ 0x55 ∷ 0x66 ∷ 0x77 ∷ []) ≡ 0x33221100 ∷ 0x77665544 ∷ [])
+    × (unpacked 8 (0x33221100 ∷ 0x77665544 ∷ []) ≡ 0x00 ∷ 0x11 ∷ 0x22 ∷ 0x33 ∷ 0x44 ∷ 0x55 ∷ 0x66 ∷ 0x77 ∷ [])

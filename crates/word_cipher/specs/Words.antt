@@ -21,6 +21,6 @@ wordIn s i = word (at s (4 * i)) (at s (4 * i + 1)) (at s (4 * i + 2)) (at s (4 
 unfoldable pub packed : ℕ → List ℕ → List ℕ
 packed n s = tabulate (wordIn s) n
 
--- The 16 bytes of four words.
-unfoldable pub unpacked : List ℕ → List ℕ
-unpacked u = tabulate (λ i. byteOf (at u (i / 4)) (i % 4)) 16
+-- The first n bytes of a list of words.
+unfoldable pub unpacked : ℕ → List ℕ → List ℕ
+unpacked n u = tabulate (λ i. byteOf (at u (i / 4)) (i % 4)) n

@@ -2,9 +2,10 @@
 ghost use mathlib.Core.Path.{_≡_};
 ghost use Prim.Native.Nat.{_<_};
 ghost use Rattle.laws.specs.Lists.{overwrite};
-ghost use Rattle.cipher.specs.Aes.{cipher};
+ghost use Rattle.cipher.specs.Aes.{cipherWith, cipher};
 ghost use Rattle.word_cipher.specs.Words.{wordIn, packed, unpacked};
 ghost use Rattle.word_cipher.specs.Cipher.{mixedWord, substituted, lastWord, addWords, wordRound, lastRound, wordCipher};
+use crate::key::Schedule;
 use crate::key::expand_key;
 use crate::table::tables;
 use crate::word::byte_of;
@@ -83,7 +84,7 @@ fn whiten(w: &[u32; 60], s: [u8; 16]) -> [u32; 4]
 }
 
 fn unpack(u: [u32; 4]) -> [u8; 16]
-    ensures { λ r. ⌜ r ≡ unpacked u ⌝ }
+    ensures { λ r. ⌜ r ≡ unpacked 16 u ⌝ }
 {
     let mut r = [0u8; 16];
     for i in 0..16 {
@@ -115,11 +116,17 @@ pub fn write_block(t: &[u32; 1024], w: &[u32; 60], block: [u8; 16], out: &mut [u
     overwrite(out, &enciphered);
 }
 
+// A block under an expanded key, whatever words stand in it. The tables are built for this block alone.
+pub fn encrypt_under(schedule: Schedule, block: [u8; 16]) -> [u8; 16]
+    ensures { λ r. ⌜ r ≡ cipherWith (unpacked 240 (schedule .words)) block ⌝ }
+{
+    let t = tables();
+    encrypt_with(&t, &schedule.words, block)
+}
+
 // A block under a key.
 pub fn encrypt(key: [u8; 32], block: [u8; 16]) -> [u8; 16]
     ensures { λ r. ⌜ r ≡ cipher key block ⌝ }
 {
-    let t = tables();
-    let schedule = expand_key(key);
-    encrypt_with(&t, &schedule.words, block)
+    encrypt_under(expand_key(key), block)
 }

@@ -1,31 +1,21 @@
 -- `generator::Generator::filled` meets its contract.
 -- Assumes nothing.
-use Prim.Native.Nat.{_+_}
 use mathlib.Core.Path.{ap, _∙_}
 use native.Mathlib.Omega.{arith}
-use mir.Val.{Fits}
-use mir.Syntax.{w8}
-use lib.ListN.{length, getD}
-use Rattle.generator.specs.Counter.{SixteenBytes, littleEndian}
+use lib.ListN.{length}
+use Rattle.generator.specs.Counter.{littleEndian}
 use Rattle.generator.specs.Steps.{decode, blockCount}
 use Rattle.generator.proofs.Effects.{blocks-next, blocks-bytes}
 use borrow.Author.Needs.{needs}
 use Rattle.generator.proofs.Generator.filled.Statement.{statement}
 use Rattle.generator.proofs.Generator.filled.Tie as tie
 
-counter-held : (c : tie.Start) → SixteenBytes (c .args .self .counter)
-counter-held c = (search needs, λ i. let b : Fits w8 (getD (c .args .self .counter) i 0) = search needs in b .fits)
-
 slice-aggregate-fill-both : tie.Need-slice-aggregate-fill-both
 slice-aggregate-fill-both c = search needs
 
 fill-both-requires : tie.Need-fill-both-requires
 unfolding decode blockCount
-fill-both-requires c κs =
-    let held = c .before .before .before in
-    let start = held .before .before .before in
-    let room = start .pre in
-    (omega arith, counter-held start)
+fill-both-requires c κs = let room = c .before .before .before .before .before .pre in omega arith
 
 same-length : tie.Need-same-length
 same-length c = search needs
@@ -34,7 +24,7 @@ returns : tie.Need-returns
 unfolding blockCount
 returns c =
     let filled = c .before .before .before in
-    let held = filled .before .before .before .before in
+    let held = filled .before .before .before in
     let start = held .before .before .before in
     let g = start .args .self in
     let n = length (start .args .out .now) in

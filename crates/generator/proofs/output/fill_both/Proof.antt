@@ -7,7 +7,7 @@ use mir.Val.{Fits}
 use mir.Syntax.{w8}
 use lib.ListN.{length, getD}
 use Rattle.cipher.proofs.Laws.{Bytes}
-use Rattle.generator.specs.Counter.{value, maxCounter}
+use Rattle.generator.specs.Counter.{value, SixteenBytes, maxCounter}
 use Rattle.generator.specs.Steps.{blockCount}
 use Rattle.generator.proofs.Digits.{value-counter, sixteen}
 use Rattle.generator.proofs.UnderKey.{both-filled}
@@ -18,9 +18,12 @@ use Rattle.generator.proofs.output.fill_both.Tie as tie
 key-bytes : (c : tie.Start) → Bytes (c .args .key)
 key-bytes c = λ i. let b : Fits w8 (getD (c .args .key) i 0) = search needs in b .fits
 
+counter-held : (c : tie.Start) → SixteenBytes (c .args .counter)
+counter-held c = (search needs, λ i. let b : Fits w8 (getD (c .args .counter) i 0) = search needs in b .fits)
+
 -- the counter after the first buffer
-room : (c : tie.Start) → value (c .args .counter .now) + blockCount (length (c .args .out .now)) ≤ maxCounter
-room c = let both = c .pre .0 in omega arith
+room : (c : tie.Start) → value (c .args .counter) + blockCount (length (c .args .out .now)) ≤ maxCounter
+room c = let both = c .pre in omega arith
 
 tables-requires : tie.Need-tables-requires
 tables-requires c κs = search needs
@@ -30,19 +33,20 @@ expand-key-requires c κs = search needs
 
 fill-requires : tie.Need-fill-requires
 fill-requires c κs =
-    let expanded = c .before .before .before .before .before in
+    let lent = c .before .before in
+    let expanded = lent .before .before .before in
     let start = expanded .before .before .before .before in
-    (room start, start .pre .1)
+    (room start, counter-held start)
 
 fill-requires-2 : tie.Need-fill-requires-2
 fill-requires-2 c κs =
-    let lent = c .before .before .before in
-    let filled = lent .before .before .before .before in
-    let given = filled .before .before .before in
-    let expanded = given .before .before .before in
+    let again = c .before .before .before .before in
+    let filled = again .before .before .before in
+    let lent = filled .before .before .before in
+    let expanded = lent .before .before .before in
     let start = expanded .before .before .before .before in
     let after = filled .fill .ensures .0 in
-    let both = start .pre .0 in
+    let both = start .pre in
     (rw (after, value-counter _ (room start)) (omega arith), sixteen _ _ after)
 
 same-length : tie.Need-same-length
@@ -54,10 +58,10 @@ same-length-2 c = search needs
 returns : tie.Need-returns
 returns c =
     let last = c .before .before in
-    let lent = last .before .before .before in
-    let filled = lent .before .before .before .before .before in
-    let given = filled .before .before .before in
-    let expanded = given .before .before .before in
+    let again = last .before .before .before .before in
+    let filled = again .before .before .before .before in
+    let lent = filled .before .before .before in
+    let expanded = lent .before .before .before in
     let tabled = expanded .before in
     let start = tabled .before .before .before in
     let a = start .args in
@@ -66,7 +70,7 @@ returns c =
     let f = filled .fill .ensures in
     let g = last .fill2 .ensures in
     both-filled (a .key) (t .result) (w .result .words) (t .ensures) (w .ensures) (key-bytes start)
-    (value (a .counter .now)) _ _ (length (a .out .now)) (length (a .more .now)) _ _ _ _ (room start) (f .0) (f .1) (g .0) (g .1)
+    (value (a .counter)) _ _ (length (a .out .now)) (length (a .more .now)) _ _ _ _ (room start) (f .0) (f .1) (g .0) (g .1)
 
 pub fill-both-spec : {M : Type 1} → statement M
 fill-both-spec =
