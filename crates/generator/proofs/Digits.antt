@@ -10,6 +10,8 @@ use native.Mathlib.Omega.{arith}
 use native.Mathlib.Decide.{decLt}
 use lib.Pow.{lt-of-le-ones}
 use lib.Dec.{eqb, ltb, lit<}
+use mir.Val.{Fits}
+use mir.Syntax.{w8}
 use lib.ListN.{length, getD, set, drop}
 use lib.Seq.{drop-cons, getD-set-same, getD-set-other}
 use borrow.Author.Tests.{eqb-true, eqb-false, ne-eqb, lt-ltb, le-ltb}
@@ -66,7 +68,8 @@ value-set (p ∷ ps) zero x h = omega arith
 value-set (p ∷ ps) (suc i) x h =
     let rest : value (set ps i x) + getD ps i 0 * 256 ^ i ≡ value ps + x * 256 ^ i = value-set ps i x (le-of-suc-le-suc h) in
     let e : 256 ^ suc i ≡ 256 * 256 ^ i = pow-succ' 256 i in
-    let f : (y : ℕ) → y * (256 * 256 ^ i) ≡ 256 * (y * 256 ^ i) = λ y. sym (mul-assoc y 256 (256 ^ i)) ∙ rw (mul-comm y 256) (mul-assoc 256 y (256 ^ i)) in
+    let f : (y : ℕ) → y * (256 * 256 ^ i) ≡ 256 * (y * 256 ^ i)
+    = λ y. sym (mul-assoc y 256 (256 ^ i)) ∙ rw (mul-comm y 256) (mul-assoc 256 y (256 ^ i)) in
     rw (e, f (getD ps i 0), f x) (omega (arith, rest))
 
 -- a store of a byte keeps all bytes
@@ -119,6 +122,10 @@ carry-on ps i v h full e =
     let p : 256 ^ (i + 1) ≡ 256 ^ i * 256 = rw add-one (pow-suc 256 i) in
     let s : value (set ps i 0) + 255 * 256 ^ i ≡ value ps + 0 * 256 ^ i = rw full at (value-set ps i 0 h) in
     omega (arith, p, s, e)
+
+-- what a byte's type says of it
+pub byte-lt : {x : ℕ} → Fits w8 x → x < 256
+byte-lt f = f .fits
 
 -- a counter block is bytes
 bytes-little : (n v i : ℕ) → getD (littleEndian n v) i 0 < 256

@@ -4,7 +4,6 @@ use mathlib.Core.Path.{_≡_, _∙_}
 use mathlib.Core.List.{List}
 use Prim.Native.Nat.{ℕ, _+_}
 use native.Mathlib.Nat.{le-of-eq}
-use lib.ListN.{length}
 use lib.Seq.{take-all}
 use Rattle.cipher.specs.Aes.{cipher}
 use Rattle.cipher.proofs.Laws.{length-cipher}

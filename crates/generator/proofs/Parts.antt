@@ -67,14 +67,14 @@ module _ (f : List ℕ → List ℕ) (size : (b : List ℕ) → length (f b) ≡
       let e : c + 1 + k ≡ c + suc k = omega arith in
       ap (λ (l : List ℕ). f (counterBlock c) ++ l) (more (c + 1) k) ∙ rw (append-assoc, e)
 
-  -- a turn that fills a buffer: the part behind k blocks takes the front of the next
-  pub part-filled : (c k e : ℕ) (d₀ d ys : List ℕ) → d ≡ over (enciphered f (counters c k)) d₀ → 16 * k < length d₀
-      → e ≡ 16 * k + min 16 (length d₀ - 16 * k) → ys ≡ take (e - 16 * k) (f (counterBlock (c + k)))
-      → take (16 * k) d ++ (ys ++ drop (e - 16 * k) (drop (16 * k) d)) ≡ over (enciphered f (counters c (k + 1))) d₀
-  part-filled c k e d₀ d ys filled room end block =
+  -- a turn that fills a buffer: the part from a to e, behind k blocks, takes the front of the next
+  pub part-filled : (c k a e : ℕ) (d₀ d ys : List ℕ) → a ≡ 16 * k → d ≡ over (enciphered f (counters c k)) d₀ → a < length d₀
+      → e ≡ a + min 16 (length d₀ - a) → ys ≡ take (e - a) (f (counterBlock (c + k)))
+      → take a d ++ (ys ++ drop (e - a) (drop a d)) ≡ over (enciphered f (counters c (k + 1))) d₀
+  part-filled c k a e d₀ d ys start filled room end block =
       let x : List ℕ = enciphered f (counters c k) in
-      let n : 16 * k ≡ length x = sym (length-enciphered c k) in
-      let part : e - 16 * k ≡ min 16 (length d₀ - length x) = omega arith in
+      let n : a ≡ length x = start ∙ sym (length-enciphered c k) in
+      let part : e - a ≡ min 16 (length d₀ - length x) = omega arith in
       rw (add-one k, more c k, block, part, filled, n)
       (over-part x (f (counterBlock (c + k))) d₀ (omega arith) (size (counterBlock (c + k))))
 
@@ -84,7 +84,8 @@ module _ (f : List ℕ → List ℕ) (size : (b : List ℕ) → length (f b) ≡
       rw (drop-of-length-le d {i = length (enciphered f (counters c k))} (rw length-enciphered h), append-nil)
 
   -- two ciphers that agree on every counter block make the same
-  pub enciphered-ext : (g : List ℕ → List ℕ) → ((c : ℕ) → f (counterBlock c) ≡ g (counterBlock c)) → (cs : List ℕ) → enciphered f cs ≡ enciphered g cs
+  pub enciphered-ext : (g : List ℕ → List ℕ) → ((c : ℕ) → f (counterBlock c) ≡ g (counterBlock c))
+      → (cs : List ℕ) → enciphered f cs ≡ enciphered g cs
   unfolding enciphered
   enciphered-ext g h [] = refl
   enciphered-ext g h (c ∷ cs) = rw (h c, enciphered-ext g h cs)

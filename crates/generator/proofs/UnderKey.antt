@@ -4,7 +4,6 @@ use mathlib.Core.Path.{_≡_, _∙_}
 use mathlib.Core.List.{List}
 use Prim.Native.Nat.{ℕ, _+_, _≤_}
 use native.Mathlib.Nat.{add-assoc}
-use native.Mathlib.Omega.{arith}
 use lib.ListN.{take}
 use Rattle.cipher.specs.Aes.{keyExpansion, cipher}
 use Rattle.cipher.proofs.Laws.{Bytes}

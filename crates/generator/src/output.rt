@@ -2,19 +2,18 @@
 use crate::counter::increment;
 use word_cipher::write_block;
 ghost use mathlib.Core.Path.{_≡_};
-ghost use Prim.Native.Nat.{_+_, _-_, _≤_, min};
+ghost use Prim.Native.Nat.{_+_, _≤_, min};
 ghost use lib.ListN.{length, take};
 ghost use Rattle.word_cipher.specs.Cipher.{wordCipher};
 ghost use Rattle.generator.specs.Counter.{value, littleEndian, SixteenBytes, maxCounter};
 ghost use Rattle.generator.specs.Steps.{blockCount};
 ghost use Rattle.generator.specs.Closed.{counters, enciphered, bytesFrom};
 
-// The end of the part of 16 bytes that starts at `at`, within n.
-fn part_end(at: usize, n: usize) -> usize
-    requires { ⌜ at ≤ n ⌝ }
-    ensures { λ r. ⌜ r ≡ at + min 16 (n - at) ⌝ }
+// The bytes of the next part, where so many are left.
+fn part_size(left: usize) -> usize
+    ensures { λ r. ⌜ r ≡ min 16 left ⌝ }
 {
-    if n - at < 16 { n } else { at + 16 }
+    if left < 16 { left } else { 16 }
 }
 
 // Fills the buffer with the blocks from the counter on, and leaves the counter that follows.
@@ -24,13 +23,12 @@ fn fill(tables: &[u32; 1024], words: &[u32; 60], counter: &mut [u8; 16], out: &m
         × (now (out .exit) ≡ take (length (now (out .entry))) (enciphered (wordCipher (now (tables .entry)) (now (words .entry)))
         (counters (value (now (counter .entry))) (blockCount (length (now (out .entry))))))) ⌝ }
 {
-    let mut k: usize = 0;
-    while k < (out.len() + 15) / 16 {
-        let at = 16 * k;
-        let end = part_end(at, out.len());
-        write_block(tables, words, *counter, &mut out[at..end]);
+    let mut at: usize = 0;
+    while at < out.len() {
+        let size = part_size(out.len() - at);
+        write_block(tables, words, *counter, &mut out[at..at + size]);
         increment(counter);
-        k = k + 1;
+        at = at + 16;
     }
 }
 

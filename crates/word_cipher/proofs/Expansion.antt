@@ -227,7 +227,8 @@ grown-more w₀ w w₁ w₂ i r p (low, high, q, l, g) h er e1 ep e2 =
           rw (m, ← e2) at (plain-four key n b w₁ (i + 4) p (omega arith) (omega arith) (omega arith) l1 s1 (rw k at ep)),
     )
 
-pub grown-all : (w₀ w w₁ : List ℕ) (i r : ℕ) → Grown w₀ w i → 56 ≤ i → r ≡ rotatedTemp 56 (at w 55) → w₁ ≡ fourMore w 56 r → Expands w₀ w₁
+pub grown-all : (w₀ w w₁ : List ℕ) (i r : ℕ) → Grown w₀ w i → 56 ≤ i
+    → r ≡ rotatedTemp 56 (at w 55) → w₁ ≡ fourMore w 56 r → Expands w₀ w₁
 unfolding packed
 grown-all w₀ w w₁ i r (low, high, q, l, g) h er e1 key n b e =
     let i56 : i ≡ 56 = omega arith in

@@ -27,4 +27,5 @@ fourMore w i t =
 
 -- What the whole expansion makes of a list of words w₀: the schedule of whatever key its first 8 words are.
 abbrev pub Expands : List ℕ → List ℕ → Type 0
-Expands w₀ w = (key : List ℕ) → length key ≡ 32 → ((i : ℕ) → at key i < 256) → take 8 w₀ ≡ packed 8 key → w ≡ packed 60 (keyExpansion key)
+Expands w₀ w = (key : List ℕ) → length key ≡ 32 → ((i : ℕ) → at key i < 256) → take 8 w₀ ≡ packed 8 key
+    → w ≡ packed 60 (keyExpansion key)

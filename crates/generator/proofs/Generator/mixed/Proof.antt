@@ -2,13 +2,11 @@
 -- Assumes nothing.
 use mathlib.Core.Path.{_≡_, _∙_}
 use Prim.Native.Nat.{_+_, _≤_}
-use mir.Val.{Fits}
-use mir.Syntax.{w8}
-use lib.ListN.{length, getD}
+use lib.ListN.{length}
 use Rattle.hash.specs.ShaD.{maxDMessage}
 use Rattle.hash.proofs.Laws.{digest-within}
-use Rattle.generator.specs.Counter.{SixteenBytes}
 use Rattle.generator.specs.Steps.{encode, decode, reseed}
+use Rattle.generator.proofs.Digits.{byte-lt}
 use Rattle.generator.proofs.Seeds.{joined-fits}
 use borrow.Author.Needs.{needs}
 use Rattle.generator.proofs.Generator.mixed.Statement.{statement}
@@ -17,9 +15,6 @@ use Rattle.generator.proofs.Generator.mixed.Tie as tie
 key-long : (c : tie.Start) → length (c .args .self .key) ≡ 32
 key-long c = search needs
 
-counter-held : (c : tie.Start) → SixteenBytes (c .args .self .counter)
-counter-held c = (search needs, λ i. let b : Fits w8 (getD (c .args .self .counter) i 0) = search needs in b .fits)
-
 slice-aggregate-sha-d256-joined : tie.Need-slice-aggregate-sha-d256-joined
 slice-aggregate-sha-d256-joined c = search needs
 
@@ -27,9 +22,7 @@ sha-d256-joined-requires : tie.Need-sha-d256-joined-requires
 sha-d256-joined-requires c κs = search needs
 
 increment-requires : tie.Need-increment-requires
-increment-requires c κs =
-    let hashed = c .before .before in
-    counter-held (hashed .before .before .before .before .before)
+increment-requires c κs = (search needs, λ i. byte-lt (search needs))
 
 returns : tie.Need-returns
 unfolding encode reseed decode

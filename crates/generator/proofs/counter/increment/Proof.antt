@@ -33,12 +33,14 @@ element-write-counter c = search needs
 
 returns : tie.Need-returns Inv-loop μ-loop
 returns c =
-    let b = c .before .before .before .before .loop in
+    let turn = c .before .before .before .before in
+    let b = turn .loop in
     let v = b .counter in
     let k : b .i < length v = omega arith in
     let s = value-set v (b .i) (getD v (b .i) 0 + 1) k in
-    let e : value (set v (b .i) (getD v (b .i) 0 + 1)) ≡ value (c .before .before .before .before .before .args .counter .now) + 1 = next-value _ _ _ _ _ s (b .inv .3) in
-    sym (rw e at (counter-value (set v (b .i) (getD v (b .i) 0 + 1)) (length-set v (b .i) _ ∙ b .inv .1) (bytes-set v (b .i) _ k (omega arith) (b .inv .2))))
+    let next = set v (b .i) (getD v (b .i) 0 + 1) in
+    let e : value next ≡ value (turn .before .args .counter .now) + 1 = next-value _ _ _ _ _ s (b .inv .3) in
+    sym (rw e at (counter-value next (length-set v (b .i) _ ∙ b .inv .1) (bytes-set v (b .i) _ k (omega arith) (b .inv .2))))
 
 element-write-counter-2 : tie.Need-element-write-counter-2 Inv-loop μ-loop
 element-write-counter-2 c = search needs

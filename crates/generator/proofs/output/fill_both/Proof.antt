@@ -1,25 +1,19 @@
 -- `generator::output::fill_both` meets its contract.
 -- Assumes nothing.
 use Prim.Native.Nat.{_+_, _≤_}
-use mathlib.Core.Path.{_≡_}
 use native.Mathlib.Omega.{arith}
-use mir.Val.{Fits}
-use mir.Syntax.{w8}
-use lib.ListN.{length, getD}
+use lib.ListN.{length}
 use Rattle.cipher.proofs.Laws.{Bytes}
-use Rattle.generator.specs.Counter.{value, SixteenBytes, maxCounter}
+use Rattle.generator.specs.Counter.{value, maxCounter}
 use Rattle.generator.specs.Steps.{blockCount}
-use Rattle.generator.proofs.Digits.{value-counter, sixteen}
+use Rattle.generator.proofs.Digits.{byte-lt, value-counter, sixteen}
 use Rattle.generator.proofs.UnderKey.{both-filled}
 use borrow.Author.Needs.{needs}
 use Rattle.generator.proofs.output.fill_both.Statement.{statement}
 use Rattle.generator.proofs.output.fill_both.Tie as tie
 
 key-bytes : (c : tie.Start) → Bytes (c .args .key)
-key-bytes c = λ i. let b : Fits w8 (getD (c .args .key) i 0) = search needs in b .fits
-
-counter-held : (c : tie.Start) → SixteenBytes (c .args .counter)
-counter-held c = (search needs, λ i. let b : Fits w8 (getD (c .args .counter) i 0) = search needs in b .fits)
+key-bytes c = λ i. byte-lt (search needs)
 
 -- the counter after the first buffer
 room : (c : tie.Start) → value (c .args .counter) + blockCount (length (c .args .out .now)) ≤ maxCounter
@@ -36,7 +30,7 @@ fill-requires c κs =
     let lent = c .before .before in
     let expanded = lent .before .before .before in
     let start = expanded .before .before .before .before in
-    (room start, counter-held start)
+    (room start, (search needs, λ i. byte-lt (search needs)))
 
 fill-requires-2 : tie.Need-fill-requires-2
 fill-requires-2 c κs =
