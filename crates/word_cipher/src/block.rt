@@ -45,22 +45,30 @@ fn round(t: &[u32; 1024], w: &[u32; 60], n: usize, u: [u32; 4]) -> [u32; 4]
     requires { ⌜ n < 15 ⌝ }
     ensures { λ r. ⌜ r ≡ wordRound (now (t .entry)) (now (w .entry)) n u ⌝ }
 {
+    let a = u[0];
+    let b = u[1];
+    let c = u[2];
+    let d = u[3];
     [
-        mixed_word(t, u[0], u[1], u[2], u[3]) ^ w[4 * n],
-        mixed_word(t, u[1], u[2], u[3], u[0]) ^ w[4 * n + 1],
-        mixed_word(t, u[2], u[3], u[0], u[1]) ^ w[4 * n + 2],
-        mixed_word(t, u[3], u[0], u[1], u[2]) ^ w[4 * n + 3],
+        mixed_word(t, a, b, c, d) ^ w[4 * n],
+        mixed_word(t, b, c, d, a) ^ w[4 * n + 1],
+        mixed_word(t, c, d, a, b) ^ w[4 * n + 2],
+        mixed_word(t, d, a, b, c) ^ w[4 * n + 3],
     ]
 }
 
 fn last_round(t: &[u32; 1024], w: &[u32; 60], u: [u32; 4]) -> [u32; 4]
     ensures { λ r. ⌜ r ≡ lastRound (now (t .entry)) (now (w .entry)) u ⌝ }
 {
+    let a = u[0];
+    let b = u[1];
+    let c = u[2];
+    let d = u[3];
     [
-        last_word(t, u[0], u[1], u[2], u[3]) ^ w[56],
-        last_word(t, u[1], u[2], u[3], u[0]) ^ w[57],
-        last_word(t, u[2], u[3], u[0], u[1]) ^ w[58],
-        last_word(t, u[3], u[0], u[1], u[2]) ^ w[59],
+        last_word(t, a, b, c, d) ^ w[56],
+        last_word(t, b, c, d, a) ^ w[57],
+        last_word(t, c, d, a, b) ^ w[58],
+        last_word(t, d, a, b, c) ^ w[59],
     ]
 }
 
