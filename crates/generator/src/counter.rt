@@ -10,8 +10,8 @@ fn wide(byte: u8) -> u64
     byte as u64
 }
 
-// The counter plus 1 modulo 2^128. All but one in 256 end at the first byte.
-pub(crate) fn increment(counter: &mut [u8; 16])
+// The counter plus 1 modulo 2^128, in place. All but one in 256 end at the first byte.
+pub(crate) fn step(counter: &mut [u8; 16])
     requires { ⌜ SixteenBytes (now counter) ⌝ }
     ensures { λ r. ⌜ now (counter .exit) ≡ littleEndian 16 (value (now (counter .entry)) + 1) ⌝ }
 {
@@ -24,6 +24,15 @@ pub(crate) fn increment(counter: &mut [u8; 16])
         counter[i] = 0;
         i = i + 1;
     }
+}
+
+// The same, by value.
+pub(crate) fn increment(counter: [u8; 16]) -> [u8; 16]
+    ensures { λ r. ⌜ r ≡ littleEndian 16 (value counter + 1) ⌝ }
+{
+    let mut next = counter;
+    step(&mut next);
+    next
 }
 
 // Whether the counter cannot grow by k: something is carried out of its last byte.

@@ -119,13 +119,13 @@ impl Generator {
         ensures { λ r. ⌜ r ≡ encode (reseed (decode self) (now (seed .entry))) ⌝ }
     {
         let key = self.key;
-        let mut counter = self.counter;
+        let counter = self.counter;
         let hashed = hash::sha_d256_joined(&key, seed);
         let digest = hashed.digest;
-        increment(&mut counter);
+        let after = increment(counter);
         Generator {
             key: digest,
-            counter: counter,
+            counter: after,
         }
     }
 

@@ -1,5 +1,5 @@
 // Blocks of the cipher, written straight into the parts of a lent buffer.
-use crate::counter::increment;
+use crate::counter::step;
 use word_cipher::write_block;
 ghost use mathlib.Core.Path.{_≡_};
 ghost use Prim.Native.Nat.{_+_, _≤_, min};
@@ -27,7 +27,7 @@ fn fill(tables: &[u32; 1024], words: &[u32; 60], counter: &mut [u8; 16], out: &m
     while at < out.len() {
         let size = part_size(out.len() - at);
         write_block(tables, words, *counter, &mut out[at..at + size]);
-        increment(counter);
+        step(counter);
         at = at + 16;
     }
 }

@@ -6,7 +6,6 @@ use lib.ListN.{length}
 use Rattle.hash.specs.ShaD.{maxDMessage}
 use Rattle.hash.proofs.Laws.{digest-within}
 use Rattle.generator.specs.Steps.{encode, decode, reseed}
-use Rattle.generator.proofs.Digits.{byte-lt}
 use Rattle.generator.proofs.Seeds.{joined-fits}
 use borrow.Author.Needs.{needs}
 use Rattle.generator.proofs.Generator.mixed.Statement.{statement}
@@ -22,12 +21,12 @@ sha-d256-joined-requires : tie.Need-sha-d256-joined-requires
 sha-d256-joined-requires c κs = search needs
 
 increment-requires : tie.Need-increment-requires
-increment-requires c κs = (search needs, λ i. byte-lt (search needs))
+increment-requires c κs = search needs
 
 returns : tie.Need-returns
 unfolding encode reseed decode
 returns c =
-    let hashed = c .before .before .before in
+    let hashed = c .before .before in
     let called = hashed .before .before .before .before .before in
     let a = called .args in
     let key : length (a .self .key) ≡ 32 = key-long called in
@@ -36,4 +35,10 @@ returns c =
     λ i. record { key = digest i; counter = c .increment .ensures i }
 
 pub mixed-spec : {M : Type 1} → statement M
-mixed-spec = tie.close (tie.spec slice-aggregate-sha-d256-joined sha-d256-joined-requires increment-requires returns)
+mixed-spec =
+    tie.close
+    (tie.spec
+    slice-aggregate-sha-d256-joined
+    sha-d256-joined-requires
+    increment-requires
+    returns)

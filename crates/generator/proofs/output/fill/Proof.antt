@@ -52,8 +52,8 @@ part-write-block-end c = search needs
 write-block-requires : tie.Need-write-block-requires Inv-loop μ-loop
 write-block-requires c κs = search needs
 
-increment-requires : tie.Need-increment-requires Inv-loop μ-loop
-increment-requires c κs =
+step-requires : tie.Need-step-requires Inv-loop μ-loop
+step-requires c κs =
     let written = c .before .before .before in
     let sized = written .before .before .before in
     sixteen _ _ (sized .before .before .loop .inv .4)
@@ -91,7 +91,7 @@ loop-again c =
       rw next
           (part-filled (wordCipher t w) (length-word-cipher t w) v k (l .at) end out₀ (l .out) ys
           (omega arith) (l .inv .3) (omega arith) (omega arith) block),
-      c .increment .ensures ∙ rw (next, l .inv .4, value-counter (v + k) limit, add-assoc),
+      c .step .ensures ∙ rw (next, l .inv .4, value-counter (v + k) limit, add-assoc),
     )
 
 same-length : tie.Need-same-length Inv-loop μ-loop
@@ -124,7 +124,7 @@ fill-spec =
     part-write-block-start
     part-write-block-end
     write-block-requires
-    increment-requires
+    step-requires
     add-at
     loop-less
     loop-again

@@ -1,6 +1,6 @@
 -- `word_cipher::word::word_of` meets its contract.
 -- Assumes nothing.
-use mathlib.Core.Path.{refl}
+use native.Mathlib.Omega.{arith}
 use Rattle.word_cipher.specs.Words.{word}
 use borrow.Author.Needs.{needs}
 use Rattle.word_cipher.proofs.word.word_of.Statement.{statement}
@@ -26,7 +26,7 @@ add-result-3 c = search needs
 
 returns : tie.Need-returns
 unfolding word
-returns c = refl
+returns c = omega arith
 
 pub word-of-spec : {M : Type 1} → statement M
 word-of-spec =
