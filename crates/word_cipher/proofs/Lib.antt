@@ -4,3 +4,4 @@ pub mod Rounds
 pub mod Agree
 pub mod Expansion
 pub mod Laws
+pub mod Rows

@@ -29,10 +29,10 @@ two-more t w u₀ u m v n h e f g =
     let k″ : suc n ≡ n + 1 = omega arith in
     rw (k, k′, k″, ← e, ← f) g
 
--- all 13 of them
-pub rounds-13 : (t w u₀ u v : List ℕ) (n : ℕ) → n ≤ 13 → 13 ≤ n → u ≡ wordRounds t w (n - 1) u₀
-    → v ≡ wordRound t w 13 u → v ≡ wordRounds t w 13 u₀
+-- all 13 of them, the last with round key m
+pub rounds-13 : (t w u₀ u v : List ℕ) (n m : ℕ) → n ≤ 13 → 13 ≤ n → m ≡ 13 → u ≡ wordRounds t w (n - 1) u₀
+    → v ≡ wordRound t w m u → v ≡ wordRounds t w 13 u₀
 unfolding wordRounds
-rounds-13 t w u₀ u v n l h e f =
-    let k : n - 1 ≡ 12 = omega arith in
-    f ∙ ap (wordRound t w 13) (e ∙ ap (λ (m : ℕ). wordRounds t w m u₀) k)
+rounds-13 t w u₀ u v n m l h k e f =
+    let before : n - 1 ≡ 12 = omega arith in
+    f ∙ rw k (ap (wordRound t w 13) (e ∙ ap (λ (j : ℕ). wordRounds t w j u₀) before))

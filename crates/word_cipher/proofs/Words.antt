@@ -8,12 +8,10 @@ use native.Mathlib.Omega.{arith}
 use lib.Bits.{bitXor, xor-block}
 use lib.ListN.{length}
 use lib.Seq.{ext-getD}
-use Rattle.laws.specs.Lists.{tabulate}
 use Rattle.laws.proofs.Tabulate.{length-tabulate, getD-tabulate}
 use Rattle.cipher.specs.Aes.{at}
 use Rattle.cipher.proofs.Bytes.{Bytes, bytes-tabulate}
 use Rattle.word_cipher.specs.Words.{word, byteOf, wordIn, packed, unpacked}
-use Rattle.word_cipher.specs.Claims.{WordsRow}
 
 -- what holds at 0 to 3
 pub four : (P : ℕ → Type 0) → P 0 → P 1 → P 2 → P 3 → (x : ℕ) → x < 4 → P x
@@ -116,7 +114,3 @@ packs n u l b =
     (λ j h.
     let low : j < n = rw length-tabulate at h in
     packed-at n j (unpacked (4 * n) u) low ∙ unpacked-word n j u low (b j))
-
-pub words-row : WordsRow
-unfolding packed unpacked tabulate word byteOf
-words-row = (refl, refl)

@@ -55,7 +55,7 @@ returns : tie.Need-returns Inv-loop μ-loop
 unfolding wordCipher
 returns c =
     let l = c .before .before .before .before .loop in
-    let e = rounds-13 _ _ _ _ _ (l .n) (l .inv .1) (search needs) (l .inv .3) (c .before .before .round3 .ensures) in
+    let e = rounds-13 _ _ _ _ _ (l .n) _ (l .inv .1) (search needs) (omega arith) (l .inv .3) (c .before .before .round3 .ensures) in
     cc
 
 pub encrypt-with-spec : {M : Type 1} → statement M
