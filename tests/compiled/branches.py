@@ -24,7 +24,7 @@ from disassembly import functions
 
 CASES = Path(__file__).with_suffix(".s")
 KEYED = [
-    "word_cipher::block::encrypt_with",
+    "word_cipher::block::encrypt_by",
     "word_cipher::key::expand_key",
     "fortuna_aes256_bytewise_block",
     "fortuna_aes256_bytewise_expand",

@@ -15,10 +15,7 @@ use Rattle.laws.proofs.Cases.{split, by-test}
 use Rattle.laws.proofs.Tables.{agree-at}
 use Rattle.laws.proofs.Tabulate.{length-tabulate, getD-tabulate}
 use Rattle.cipher.specs.Field.{xtime, multiply, product, affineBit, affineFrom, affine, subByte}
-use Rattle.cipher.specs.Aes.{at, wordAt, xorWord, subWord, rotWord, rcon, xPower, temp, nextWord, withNextWord, expand, keyExpansion, subBytes, shiftRows, mixedByte, mixColumns, addRoundKey, round, rounds, cipherWith, cipher}
-
-abbrev pub Bytes : List ℕ → Type 0
-Bytes s = (i : ℕ) → at s i < 256
+use Rattle.cipher.specs.Aes.{at, Bytes, wordAt, xorWord, subWord, rotWord, rcon, xPower, temp, nextWord, withNextWord, expand, keyExpansion, subBytes, shiftRows, mixedByte, mixColumns, addRoundKey, round, rounds}
 
 pub bytes-tabulate : (f : ℕ → ℕ) (n : ℕ) → ((i : ℕ) → f i < 256) → Bytes (tabulate f n)
 bytes-tabulate f n h i =
@@ -35,7 +32,7 @@ bytes-append s t p q i =
     let e : i ≡ length s + (i - length s) = omega arith in
     rw (e, getD-append-add s t (i - length s) 0) (q (i - length s)))
 
-pub bytes-word : (a b c d : ℕ) → a < 256 → b < 256 → c < 256 → d < 256 → Bytes (a ∷ b ∷ c ∷ d ∷ [])
+bytes-word : (a b c d : ℕ) → a < 256 → b < 256 → c < 256 → d < 256 → Bytes (a ∷ b ∷ c ∷ d ∷ [])
 bytes-word a b c d p q r s zero = p
 bytes-word a b c d p q r s (suc zero) = q
 bytes-word a b c d p q r s (suc (suc zero)) = r
@@ -51,7 +48,7 @@ pub sub-byte-lt : (b : ℕ) → subByte b < 256
 unfolding subByte affine
 sub-byte-lt b = affine-from-lt _ 0 8
 
-pub x-power-lt : (n : ℕ) → xPower n < 256
+x-power-lt : (n : ℕ) → xPower n < 256
 unfolding xPower xtime
 x-power-lt zero = omega arith
 x-power-lt (suc n) =
@@ -128,11 +125,3 @@ pub bytes-rounds : (w s : List ℕ) (n : ℕ) → Bytes w → Bytes s → Bytes 
 unfolding rounds round
 bytes-rounds w s zero p q = q
 bytes-rounds w s (suc n) p q = bytes-added w _ (suc n) p (bytes-mixed _ (bytes-shifted (rounds w n s)))
-
-pub bytes-cipher-with : (w block : List ℕ) → Bytes w → Bytes (cipherWith w block)
-unfolding cipherWith
-bytes-cipher-with w block p = bytes-added w _ 14 p (bytes-shifted _)
-
-pub bytes-cipher : (key block : List ℕ) → Bytes key → Bytes (cipher key block)
-unfolding cipher
-bytes-cipher key block p = bytes-cipher-with (keyExpansion key) block (bytes-key-expansion key p)

@@ -7,17 +7,13 @@ use native.Mathlib.Omega.{arith}
 use lib.ListN.{length}
 use Rattle.laws.proofs.Tabulate.{length-tabulate}
 use Rattle.cipher.specs.Aes.{addRoundKey, cipherWith, keyExpansion, cipher}
-pub use Rattle.cipher.proofs.Bytes.{Bytes, bytes-cipher-with, bytes-cipher, bytes-key-expansion}
+pub use Rattle.cipher.proofs.Bytes.{bytes-key-expansion}
 use Rattle.cipher.proofs.Schedule.{length-expand}
 
 -- A block is 16 bytes.
-pub length-cipher-with : (w block : List ℕ) → length (cipherWith w block) ≡ 16
-unfolding cipherWith addRoundKey
-length-cipher-with w block = length-tabulate _ 16
-
 pub length-cipher : (key block : List ℕ) → length (cipher key block) ≡ 16
-unfolding cipher
-length-cipher key block = length-cipher-with (keyExpansion key) block
+unfolding cipher cipherWith addRoundKey
+length-cipher key block = length-tabulate _ 16
 
 -- A schedule is 240 bytes.
 pub length-key-expansion : (key : List ℕ) → length key ≡ 32 → length (keyExpansion key) ≡ 240

@@ -2,7 +2,7 @@
 -- Meant for states and blocks of 16 bytes, keys of 32 and schedules of 240; at any other list a byte past the end reads as 0.
 -- A state holds column after column (3.4): s_r,c stands at place r + 4 * c.
 -- Assumes nothing.
-use Prim.Native.Nat.{ℕ, zero, suc, _+_, _-_, _*_, _/_, _%_}
+use Prim.Native.Nat.{ℕ, zero, suc, _+_, _-_, _*_, _/_, _%_, _<_}
 use mathlib.Core.Bool.{cond}
 use mathlib.Core.List.{List, [], _∷_, _++_}
 use lib.Dec.{eqb}
@@ -13,6 +13,10 @@ use Rattle.cipher.specs.Field.{_⊕_, xtime, product, subByte}
 -- Byte i.
 abbrev pub at : List ℕ → ℕ → ℕ
 at s i = getD s i 0
+
+-- Every element is a byte.
+abbrev pub Bytes : List ℕ → Type 0
+Bytes s = (i : ℕ) → at s i < 256
 
 -- SubBytes (5.1.1).
 unfoldable pub subBytes : List ℕ → List ℕ

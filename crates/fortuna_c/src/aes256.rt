@@ -15,6 +15,6 @@ pub extern "C" fn fortuna_aes256_expand(key: &[u8; 32]) -> Schedule
 pub extern "C" fn fortuna_aes256_block(key: Schedule, block: &mut [u8; 16])
     ensures { λ r. ⌜ now (block .exit) ≡ cipherWith (unpacked 240 (key .words)) (now (block .entry)) ⌝ }
 {
-    let enciphered = word_cipher::encrypt_under(key, *block);
+    let enciphered = word_cipher::encrypt_with(key, *block);
     *block = enciphered;
 }

@@ -17,11 +17,8 @@ use lib.Seq.{drop-cons, getD-set-same, getD-set-other}
 use borrow.Author.Tests.{eqb-true, eqb-false, ne-eqb, lt-ltb, le-ltb}
 use Rattle.laws.specs.Lists.{allZero}
 use Rattle.laws.proofs.Cases.{by-test}
+use Rattle.cipher.specs.Aes.{Bytes}
 use Rattle.generator.specs.Counter.{value, littleEndian, SixteenBytes, maxCounter, counterBlock}
-
--- each element is a byte
-abbrev pub AllBytes : List ℕ → Type 0
-AllBytes ps = (i : ℕ) → getD ps i 0 < 256
 
 -- one byte off the front
 pub value-drop : (ps : List ℕ) (i : ℕ) → i < length ps → value (drop i ps) ≡ getD ps i 0 + 256 * value (drop (i + 1) ps)
@@ -42,7 +39,7 @@ value-littleEndian (suc n) v h =
     rw (value-littleEndian n (v / 256) (div-lt-iff-lt-mul {k = 256} (omega arith) .1 h′)) (omega arith)
 
 -- the bytes of the number of some bytes are those bytes
-pub littleEndian-value : (ps : List ℕ) → AllBytes ps → littleEndian (length ps) (value ps) ≡ ps
+pub littleEndian-value : (ps : List ℕ) → Bytes ps → littleEndian (length ps) (value ps) ≡ ps
 unfolding value littleEndian
 littleEndian-value [] h = refl
 littleEndian-value (p ∷ ps) h =
@@ -73,7 +70,7 @@ value-set (p ∷ ps) (suc i) x h =
     rw (e, f (getD ps i 0), f x) (omega (arith, rest))
 
 -- a store of a byte keeps all bytes
-pub bytes-set : (ps : List ℕ) (i x : ℕ) → i < length ps → x < 256 → AllBytes ps → AllBytes (set ps i x)
+pub bytes-set : (ps : List ℕ) (i x : ℕ) → i < length ps → x < 256 → Bytes ps → Bytes (set ps i x)
 bytes-set ps i x h b all j =
     by-test
     (eqb j i)
@@ -110,10 +107,10 @@ unfolding maxCounter
 value-counter v h = value-littleEndian 16 v (lt-of-le-ones 128 h)
 
 -- the counter's bytes are those of its value
-pub counter-value : (ps : List ℕ) → length ps ≡ 16 → AllBytes ps → littleEndian 16 (value ps) ≡ ps
+pub counter-value : (ps : List ℕ) → length ps ≡ 16 → Bytes ps → littleEndian 16 (value ps) ≡ ps
 counter-value ps full bytes = rw (← full) (littleEndian-value ps bytes)
 
--- the two ways of a turn of `increment`: the byte takes the 1, or it is 255 and the 1 goes on to the next place
+-- the two ways of a turn of `step`: the byte takes the 1, or it is 255 and the 1 goes on to the next place
 pub next-value : (a b d v s : ℕ) → a + d * s ≡ v + (d + 1) * s → v + s ≡ b → a ≡ b
 next-value a b d v s e f = omega (arith, e, f, add-mul d 1 s)
 
@@ -127,7 +124,6 @@ carry-on ps i v h full e =
 pub byte-lt : {x : ℕ} → Fits w8 x → x < 256
 byte-lt f = f .fits
 
--- a counter block is bytes
 bytes-little : (n v i : ℕ) → getD (littleEndian n v) i 0 < 256
 unfolding littleEndian
 bytes-little zero v i = lit< tt
@@ -139,6 +135,7 @@ pub sixteen : (c : List ℕ) (v : ℕ) → c ≡ littleEndian 16 v → SixteenBy
 unfolding littleEndian
 sixteen c v e = (ap length e, λ i. rw e (bytes-little 16 v i))
 
-pub bytes-counter : (c : ℕ) → AllBytes (counterBlock c)
+-- a counter block is bytes
+pub bytes-counter : (c : ℕ) → Bytes (counterBlock c)
 unfolding counterBlock
 bytes-counter c = bytes-little 16 c

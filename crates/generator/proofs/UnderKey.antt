@@ -1,12 +1,11 @@
--- Blocks by the tables under a key's schedule are blocks under the key: the one place that knows which cipher the code runs.
+-- Blocks by the tables under a key's schedule are blocks under the key: the one place that goes from the cipher by tables to FIPS 197's.
 -- Assumes nothing.
 use mathlib.Core.Path.{_≡_, _∙_}
 use mathlib.Core.List.{List}
 use Prim.Native.Nat.{ℕ, _+_, _≤_}
 use native.Mathlib.Nat.{add-assoc}
 use lib.ListN.{take}
-use Rattle.cipher.specs.Aes.{keyExpansion, cipher}
-use Rattle.cipher.proofs.Laws.{Bytes}
+use Rattle.cipher.specs.Aes.{Bytes, keyExpansion, cipher}
 use Rattle.word_cipher.specs.Words.{packed}
 use Rattle.word_cipher.specs.Tables.{tables}
 use Rattle.word_cipher.specs.Cipher.{wordCipher}

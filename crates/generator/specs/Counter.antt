@@ -2,8 +2,9 @@
 -- Assumes nothing.
 use mathlib.Core.List.{List, [], _∷_}
 use mathlib.Core.Path.{_≡_}
-use lib.ListN.{length, getD}
-use Prim.Native.Nat.{ℕ, zero, suc, _+_, _*_, _/_, _%_, _^_, _-_, _<_}
+use lib.ListN.{length}
+use Prim.Native.Nat.{ℕ, zero, suc, _+_, _*_, _/_, _%_, _^_, _-_}
+use Rattle.cipher.specs.Aes.{Bytes}
 
 -- the sum of p_i 2^(8 i)
 unfoldable pub value : List ℕ → ℕ
@@ -17,7 +18,7 @@ littleEndian (suc n) v = v % 256 ∷ littleEndian n (v / 256)
 
 -- what a counter in memory is: 16 bytes
 abbrev pub SixteenBytes : List ℕ → Type 0
-SixteenBytes s = (length s ≡ 16) × ((i : ℕ) → getD s i 0 < 256)
+SixteenBytes s = (length s ≡ 16) × Bytes s
 
 -- the largest value of C
 unfoldable pub maxCounter : ℕ

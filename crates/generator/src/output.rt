@@ -1,4 +1,4 @@
-// Blocks of the cipher, written straight into the parts of a lent buffer.
+// Blocks of the cipher by tables, written straight into the parts of a lent buffer.
 use crate::counter::step;
 use word_cipher::write_block;
 ghost use mathlib.Core.Path.{_≡_};

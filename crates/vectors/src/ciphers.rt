@@ -60,7 +60,7 @@ fn write_part(tables: &[u32; 1024], words: &[u32; 60], block: [u8; 16], out: &mu
 fn enciphered(call: u8, words: [u32; 60], block: [u8; 16], rest: &[u8]) {
     let tables = word_cipher::tables();
     if call == b'x' {
-        let c = masked(word_cipher::encrypt_with(&tables, &words, block), rest);
+        let c = masked(word_cipher::encrypt_by(&tables, &words, block), rest);
         lines::bytes(b"", &c);
         return;
     }

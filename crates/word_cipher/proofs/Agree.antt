@@ -9,8 +9,8 @@ use lib.ListN.{length}
 use Rattle.laws.specs.Lists.{tabulate}
 use Rattle.laws.proofs.Tabulate.{length-tabulate, getD-tabulate, tabulate-ext}
 use Rattle.cipher.specs.Field.{_⊕_, subByte}
-use Rattle.cipher.specs.Aes.{at, subBytes, shiftRows, mixedByte, mixColumns, addRoundKey, round, rounds, cipherWith}
-use Rattle.cipher.proofs.Bytes.{Bytes, sub-byte-lt, bytes-shifted, bytes-mixed, bytes-added, bytes-rounds}
+use Rattle.cipher.specs.Aes.{at, Bytes, subBytes, shiftRows, mixedByte, mixColumns, addRoundKey, round, rounds, cipherWith}
+use Rattle.cipher.proofs.Bytes.{sub-byte-lt, bytes-shifted, bytes-mixed, bytes-added, bytes-rounds}
 use Rattle.word_cipher.specs.Words.{word, wordIn, packed, unpacked}
 use Rattle.word_cipher.specs.Tables.{entry, tables}
 use Rattle.word_cipher.specs.Cipher.{mixedWord, lastWord, columns, addWords, wordRound, lastRound, wordRounds, wordCipher}
@@ -64,15 +64,15 @@ added-at : (w s : List ℕ) (n i : ℕ) → i < 16 → at (addRoundKey w n s) i 
 unfolding addRoundKey
 added-at w s n i h = getD-tabulate (λ j. at s j ⊕ at w (16 * n + j)) 0 16 i h
 
--- byte r of column c with its byte of round key n
-added-byte : (w s : List ℕ) (n c i j : ℕ) → i < 16 → j ≡ 16 * n + i → at s i ⊕ at w j ≡ at (addRoundKey w n s) i
-added-byte w s n c i j h e = ap (λ (k : ℕ). at s i ⊕ at w k) e ∙ sym (added-at w s n i h)
+-- byte i with its byte of round key n, which stands at j
+added-byte : (w s : List ℕ) (n i j : ℕ) → i < 16 → j ≡ 16 * n + i → at s i ⊕ at w j ≡ at (addRoundKey w n s) i
+added-byte w s n i j h e = ap (λ (k : ℕ). at s i ⊕ at w k) e ∙ sym (added-at w s n i h)
 
 added-word : (w s : List ℕ) (n c : ℕ) → c < 4 → Bytes w → Bytes s → wordIn s c ⊕ wordIn w (4 * n + c) ≡ wordIn (addRoundKey w n s) c
 added-word w s n c l p h =
     xor-word _ _ _ _ _ _ _ _ (h _) (h _) (h _) (p _) (p _) (p _)
-    ∙ word-ext (added-byte w s n c (4 * c) _ (omega arith) (omega arith)) (added-byte w s n c (4 * c + 1) _ (omega arith) (omega arith))
-    (added-byte w s n c (4 * c + 2) _ (omega arith) (omega arith)) (added-byte w s n c (4 * c + 3) _ (omega arith) (omega arith))
+    ∙ word-ext (added-byte w s n (4 * c) _ (omega arith) (omega arith)) (added-byte w s n (4 * c + 1) _ (omega arith) (omega arith))
+    (added-byte w s n (4 * c + 2) _ (omega arith) (omega arith)) (added-byte w s n (4 * c + 3) _ (omega arith) (omega arith))
 
 added : (w s : List ℕ) (n : ℕ) → n < 15 → Bytes w → Bytes s → addWords (packed 60 w) n (packed 4 s) ≡ packed 4 (addRoundKey w n s)
 unfolding addWords packed

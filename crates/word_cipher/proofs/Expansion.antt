@@ -13,8 +13,8 @@ use lib.Seq.{take-suc-set, getD-take, getD-set-same, getD-set-other, ext-getD}
 use Rattle.laws.specs.Lists.{tabulate}
 use Rattle.laws.proofs.Tabulate.{length-tabulate, getD-tabulate}
 use Rattle.cipher.specs.Field.{_⊕_, subByte}
-use Rattle.cipher.specs.Aes.{at, wordAt, xorWord, subWord, rotWord, rcon, xPower, temp, nextWord, keyExpansion}
-use Rattle.cipher.proofs.Bytes.{Bytes, bytes-xor-word, bytes-sub-word, bytes-rcon, bytes-word-at, bytes-key-expansion}
+use Rattle.cipher.specs.Aes.{at, Bytes, wordAt, xorWord, subWord, rotWord, rcon, xPower, temp, nextWord, keyExpansion}
+use Rattle.cipher.proofs.Bytes.{bytes-xor-word, bytes-sub-word, bytes-rcon, bytes-word-at, bytes-key-expansion}
 use Rattle.cipher.proofs.Schedule.{key-front, next-at}
 use Rattle.word_cipher.specs.Words.{word, byteOf, wordIn, packed}
 use Rattle.word_cipher.specs.Schedule.{subWords, rotatedTemp, fourMore, Expands}

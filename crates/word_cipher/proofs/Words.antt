@@ -9,12 +9,12 @@ use lib.Bits.{bitXor, xor-block}
 use lib.ListN.{length}
 use lib.Seq.{ext-getD}
 use Rattle.laws.proofs.Tabulate.{length-tabulate, getD-tabulate}
-use Rattle.cipher.specs.Aes.{at}
-use Rattle.cipher.proofs.Bytes.{Bytes, bytes-tabulate}
+use Rattle.cipher.specs.Aes.{at, Bytes}
+use Rattle.cipher.proofs.Bytes.{bytes-tabulate}
 use Rattle.word_cipher.specs.Words.{word, byteOf, wordIn, packed, unpacked}
 
 -- what holds at 0 to 3
-pub four : (P : ℕ → Type 0) → P 0 → P 1 → P 2 → P 3 → (x : ℕ) → x < 4 → P x
+four : (P : ℕ → Type 0) → P 0 → P 1 → P 2 → P 3 → (x : ℕ) → x < 4 → P x
 four P p q r s zero h = p
 four P p q r s (suc zero) h = q
 four P p q r s (suc (suc zero)) h = r
@@ -58,11 +58,11 @@ byte-in s h i =
     let e = bytes-in s h i in
     four (λ k. byteOf (wordIn s i) k ≡ at s (4 * i + k)) (e .0 ∙ ap (at s) (omega arith)) (e .1) (e .2) (e .3)
 
-pub unpacked-at : (n i : ℕ) (u : List ℕ) → i < n → at (unpacked n u) i ≡ byteOf (at u (i / 4)) (i % 4)
+unpacked-at : (n i : ℕ) (u : List ℕ) → i < n → at (unpacked n u) i ≡ byteOf (at u (i / 4)) (i % 4)
 unfolding unpacked
 unpacked-at n i u h = getD-tabulate (λ j. byteOf (at u (j / 4)) (j % 4)) 0 n i h
 
-pub length-unpacked : (n : ℕ) (u : List ℕ) → length (unpacked n u) ≡ n
+length-unpacked : (n : ℕ) (u : List ℕ) → length (unpacked n u) ≡ n
 unfolding unpacked
 length-unpacked n u = length-tabulate _ n
 

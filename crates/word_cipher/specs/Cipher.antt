@@ -1,5 +1,5 @@
 -- AES-256 by tables: a state is four words, its columns. Step by step what FIPS 197, 5.1, does on bytes.
--- The steps speak of any list t of words as the tables and any list w as the schedule; Claims.antt has those that count.
+-- The steps speak of any list t of words as the tables and any list w as the schedule; Claims.antt takes those of Tables.antt and a key's.
 -- Assumes nothing.
 use Prim.Native.Nat.{ℕ, zero, suc, _+_, _*_, _%_}
 use mathlib.Core.List.{List}

@@ -5,7 +5,7 @@ use mathlib.Core.Path.{_≡_}
 use mathlib.Core.List.{List, [], _∷_}
 use lib.ListN.{length, set, replicate}
 use Rattle.cipher.specs.Field.{subByte}
-use Rattle.cipher.specs.Aes.{at, mixColumns, keyExpansion, cipherWith, cipher}
+use Rattle.cipher.specs.Aes.{at, Bytes, mixColumns, keyExpansion, cipherWith, cipher}
 use Rattle.word_cipher.specs.Words.{wordIn, packed, unpacked}
 use Rattle.word_cipher.specs.Tables.{tables}
 use Rattle.word_cipher.specs.Cipher.{wordCipher}
@@ -19,18 +19,14 @@ alone k s = set (replicate 16 0) k s
 abbrev pub TablesRule : Type 0
 TablesRule = (k x : ℕ) → k < 4 → x < 256 → at tables (256 * k + x) ≡ wordIn (mixColumns (alone k (subByte x))) 0
 
--- Every element is a byte.
-abbrev pub AllBytes : List ℕ → Type 0
-AllBytes s = (i : ℕ) → at s i < 256
-
 -- Both ciphers agree on every key and every block.
 abbrev pub CiphersAgree : Type 0
-CiphersAgree = (key block : List ℕ) → AllBytes key → AllBytes block
+CiphersAgree = (key block : List ℕ) → Bytes key → Bytes block
     → wordCipher tables (packed 60 (keyExpansion key)) block ≡ cipher key block
 
 -- They agree under whatever 60 words of 32 bits stand in the schedule, those of no key too.
 abbrev pub SchedulesAgree : Type 0
-SchedulesAgree = (w block : List ℕ) → length w ≡ 60 → ((i : ℕ) → at w i < 2 ^ 32) → AllBytes block
+SchedulesAgree = (w block : List ℕ) → length w ≡ 60 → ((i : ℕ) → at w i < 2 ^ 32) → Bytes block
     → wordCipher tables w block ≡ cipherWith (unpacked 240 w) block
 
 -- A word's first byte is the least significant.

@@ -1,11 +1,11 @@
 -- Steps of KeyExpansion (FIPS 197, 5.2) on words, four at once: what the parts of `expand_key` do.
 -- Assumes nothing.
-use Prim.Native.Nat.{ℕ, _+_, _-_, _/_, _<_}
+use Prim.Native.Nat.{ℕ, _+_, _-_, _/_}
 use mathlib.Core.Path.{_≡_}
 use mathlib.Core.List.{List}
 use lib.ListN.{length, take, set}
 use Rattle.cipher.specs.Field.{_⊕_, subByte}
-use Rattle.cipher.specs.Aes.{at, xPower, keyExpansion}
+use Rattle.cipher.specs.Aes.{at, Bytes, xPower, keyExpansion}
 use Rattle.word_cipher.specs.Words.{word, byteOf, packed}
 
 -- SubWord of the word whose bytes are bytes i, j, k and l of x.
@@ -27,5 +27,5 @@ fourMore w i t =
 
 -- What the whole expansion makes of a list of words w₀: the schedule of whatever key its first 8 words are.
 abbrev pub Expands : List ℕ → List ℕ → Type 0
-Expands w₀ w = (key : List ℕ) → length key ≡ 32 → ((i : ℕ) → at key i < 256) → take 8 w₀ ≡ packed 8 key
+Expands w₀ w = (key : List ℕ) → length key ≡ 32 → Bytes key → take 8 w₀ ≡ packed 8 key
     → w ≡ packed 60 (keyExpansion key)

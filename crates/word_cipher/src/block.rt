@@ -102,7 +102,7 @@ fn unpack(u: [u32; 4]) -> [u8; 16]
 }
 
 // A block under an expanded key, with the tables lent. Two rounds a turn.
-pub fn encrypt_with(t: &[u32; 1024], w: &[u32; 60], block: [u8; 16]) -> [u8; 16]
+pub fn encrypt_by(t: &[u32; 1024], w: &[u32; 60], block: [u8; 16]) -> [u8; 16]
     ensures { λ r. ⌜ r ≡ wordCipher (now (t .entry)) (now (w .entry)) block ⌝ }
 {
     let mut u = whiten(w, block);
@@ -120,21 +120,21 @@ pub fn encrypt_with(t: &[u32; 1024], w: &[u32; 60], block: [u8; 16]) -> [u8; 16]
 pub fn write_block(t: &[u32; 1024], w: &[u32; 60], block: [u8; 16], out: &mut [u8])
     ensures { λ r. ⌜ now (out .exit) ≡ overwrite (now (out .entry)) (wordCipher (now (t .entry)) (now (w .entry)) block) ⌝ }
 {
-    let enciphered = encrypt_with(t, w, block);
+    let enciphered = encrypt_by(t, w, block);
     overwrite(out, &enciphered);
 }
 
 // A block under an expanded key, whatever words stand in it. The tables are built for this block alone.
-pub fn encrypt_under(schedule: Schedule, block: [u8; 16]) -> [u8; 16]
+pub fn encrypt_with(schedule: Schedule, block: [u8; 16]) -> [u8; 16]
     ensures { λ r. ⌜ r ≡ cipherWith (unpacked 240 (schedule .words)) block ⌝ }
 {
     let t = tables();
-    encrypt_with(&t, &schedule.words, block)
+    encrypt_by(&t, &schedule.words, block)
 }
 
 // A block under a key.
 pub fn encrypt(key: [u8; 32], block: [u8; 16]) -> [u8; 16]
     ensures { λ r. ⌜ r ≡ cipher key block ⌝ }
 {
-    encrypt_under(expand_key(key), block)
+    encrypt_with(expand_key(key), block)
 }

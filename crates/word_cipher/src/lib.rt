@@ -5,7 +5,7 @@ mod table;
 mod word;
 
 pub use block::encrypt;
-pub use block::encrypt_under;
+pub use block::encrypt_by;
 pub use block::encrypt_with;
 pub use block::write_block;
 pub use key::Schedule;

@@ -5,13 +5,14 @@ use Prim.Native.Nat.{_+_, _-_, _^_, _≤_, _<_}
 use native.Mathlib.Omega.{arith}
 use lib.ListN.{length, getD, set, length-set}
 use Rattle.generator.specs.Counter.{value, littleEndian}
-use Rattle.generator.proofs.Digits.{AllBytes, counter-value, value-set, bytes-set, littleEndian-wraps, next-value, carry-on}
+use Rattle.cipher.specs.Aes.{Bytes}
+use Rattle.generator.proofs.Digits.{counter-value, value-set, bytes-set, littleEndian-wraps, next-value, carry-on}
 use borrow.Author.Needs.{needs}
 use Rattle.generator.proofs.counter.step.Statement.{statement}
 use Rattle.generator.proofs.counter.step.Tie as tie
 
 abbrev Inv-loop : tie.InvT-loop
-Inv-loop counter₀ i₀ counter i = (i ≤ 16) × (length counter ≡ 16) × AllBytes counter × (value counter + 256 ^ i ≡ value counter₀ + 1)
+Inv-loop counter₀ i₀ counter i = (i ≤ 16) × (length counter ≡ 16) × Bytes counter × (value counter + 256 ^ i ≡ value counter₀ + 1)
 
 abbrev μ-loop : tie.MeasureT-loop
 μ-loop counter₀ i₀ counter i = 16 - i

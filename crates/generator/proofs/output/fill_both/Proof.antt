@@ -3,7 +3,7 @@
 use Prim.Native.Nat.{_+_, _≤_}
 use native.Mathlib.Omega.{arith}
 use lib.ListN.{length}
-use Rattle.cipher.proofs.Laws.{Bytes}
+use Rattle.cipher.specs.Aes.{Bytes}
 use Rattle.generator.specs.Counter.{value, maxCounter}
 use Rattle.generator.specs.Steps.{blockCount}
 use Rattle.generator.proofs.Digits.{byte-lt, value-counter, sixteen}

@@ -1,78 +1,33 @@
--- `word_cipher::block::encrypt_with` meets its contract.
+-- `word_cipher::block::encrypt_with` meets its contract: both ciphers agree under any words.
 -- Assumes nothing.
-use Prim.Native.Nat.{_-_, _%_, _≤_}
-use mathlib.Core.Path.{_≡_, refl}
-use native.Mathlib.Omega.{arith}
+use mathlib.Core.Path.{_≡_, ap, _∙_}
+use mathlib.Core.List.{List}
+use Prim.Native.Nat.{ℕ}
+use mir.Val.{Fits}
+use mir.Syntax.{w8, w32}
+use lib.ListN.{length, getD}
 use borrow.Author.Needs.{needs}
-use Rattle.word_cipher.specs.Cipher.{wordRounds, wordCipher}
-use Rattle.word_cipher.proofs.Rounds.{two-more, rounds-13}
+use Rattle.word_cipher.specs.Cipher.{wordCipher}
+use Rattle.word_cipher.proofs.Agree.{schedules-agree}
 use Rattle.word_cipher.proofs.block.encrypt_with.Statement.{statement}
 use Rattle.word_cipher.proofs.block.encrypt_with.Tie as tie
 
-abbrev Inv-loop : tie.InvT-loop
-Inv-loop t w u₀ n₀ u n = (1 ≤ n) × (n ≤ 13) × (n % 2 ≡ 1) × (u ≡ wordRounds t w (n - 1) u₀)
+tables-requires : tie.Need-tables-requires
+tables-requires c κs = search needs
 
-abbrev μ-loop : tie.MeasureT-loop
-μ-loop t w u₀ n₀ u n = 13 - n
+encrypt-by-requires : tie.Need-encrypt-by-requires
+encrypt-by-requires c κs = search needs
 
-whiten-requires : tie.Need-whiten-requires Inv-loop μ-loop
-whiten-requires c κs = search needs
-
-loop-holds : tie.Need-loop-holds Inv-loop μ-loop
-unfolding wordRounds
-loop-holds c = (search needs, search needs, refl, refl)
-
-round-requires : tie.Need-round-requires Inv-loop μ-loop
-round-requires c κs = search needs
-
-add-round : tie.Need-add-round Inv-loop μ-loop
-add-round c = search needs
-
-round-requires-2 : tie.Need-round-requires-2 Inv-loop μ-loop
-round-requires-2 c κs = search needs
-
-add-n : tie.Need-add-n Inv-loop μ-loop
-add-n c = search needs
-
-loop-less : tie.Need-loop-less Inv-loop μ-loop
-loop-less c = search needs
-
-loop-again : tie.Need-loop-again Inv-loop μ-loop
-loop-again c =
-    let l = c .before .before .before .loop in
-    (omega arith, omega arith, omega arith, two-more _ _ _ _ _ _ (l .n) (l .inv .0) (l .inv .3) (c .before .round .ensures) (c .round2 .ensures))
-
-round-requires-3 : tie.Need-round-requires-3 Inv-loop μ-loop
-round-requires-3 c κs = search needs
-
-last-round-requires : tie.Need-last-round-requires Inv-loop μ-loop
-last-round-requires c κs = search needs
-
-unpack-requires : tie.Need-unpack-requires Inv-loop μ-loop
-unpack-requires c κs = search needs
-
-returns : tie.Need-returns Inv-loop μ-loop
-unfolding wordCipher
+returns : tie.Need-returns
 returns c =
-    let l = c .before .before .before .before .loop in
-    let e = rounds-13 _ _ _ _ _ (l .n) _ (l .inv .1) (search needs) (omega arith) (l .inv .3) (c .before .before .round3 .ensures) in
-    cc
+    let tabled = c .before .before .before .before in
+    let a = tabled .before .args in
+    let w = a .t1 .words in
+    let long : length w ≡ 60 = search needs in
+    c .encrypt-by .ensures
+    ∙ ap (λ (t : List ℕ). wordCipher t w (a .block)) (tabled .tables .ensures)
+    ∙ schedules-agree w (a .block) long (λ i. let b : Fits w32 (getD w i 0) = search needs in b .fits)
+    (λ i. let b : Fits w8 (getD (a .block) i 0) = search needs in b .fits)
 
 pub encrypt-with-spec : {M : Type 1} → statement M
-encrypt-with-spec =
-    tie.close
-    (tie.spec
-    Inv-loop
-    μ-loop
-    whiten-requires
-    loop-holds
-    round-requires
-    add-round
-    round-requires-2
-    add-n
-    loop-less
-    loop-again
-    round-requires-3
-    last-round-requires
-    unpack-requires
-    returns)
+encrypt-with-spec = tie.close (tie.spec tables-requires encrypt-by-requires returns)

@@ -4,8 +4,8 @@ use borrow.Author.Needs.{needs}
 use Rattle.word_cipher.proofs.block.write_block.Statement.{statement}
 use Rattle.word_cipher.proofs.block.write_block.Tie as tie
 
-encrypt-with-requires : tie.Need-encrypt-with-requires
-encrypt-with-requires c κs = search needs
+encrypt-by-requires : tie.Need-encrypt-by-requires
+encrypt-by-requires c κs = search needs
 
 slice-aggregate-overwrite : tie.Need-slice-aggregate-overwrite
 slice-aggregate-overwrite c = search needs
@@ -23,7 +23,7 @@ pub write-block-spec : {M : Type 1} → statement M
 write-block-spec =
     tie.close
     (tie.spec
-    encrypt-with-requires
+    encrypt-by-requires
     slice-aggregate-overwrite
     overwrite-requires
     same-length

@@ -6,7 +6,7 @@ use mir.Val.{Fits}
 use mir.Syntax.{w8}
 use lib.ListN.{getD, replicate}
 use borrow.Author.Needs.{needs}
-use Rattle.cipher.proofs.Bytes.{Bytes}
+use Rattle.cipher.specs.Aes.{Bytes}
 use Rattle.word_cipher.proofs.Expansion.{Loaded, loaded-none, loaded-more, loaded-all}
 use Rattle.word_cipher.proofs.key.expand_key.Statement.{statement}
 use Rattle.word_cipher.proofs.key.expand_key.Tie as tie
