@@ -50,10 +50,10 @@
    their own.
 
    Traces. No branch in the ciphers goes by key or data, but both read tables at places that key and data pick, and a
-   trace of the power or of the cache may tell those places. The calls that draw from a state or from the generator
-   encipher by four tables of words, 4 KB, always. The cipher that goes byte by byte reads the 256 bytes of the S-box: a
-   smaller leak, not none. It is there for firmware that enciphers under keys of its own where such traces matter
-   (fortuna_aes256_bytewise_block).
+   trace of the power or of the cache may tell those places. To expand a key both read the S-box, 256 bytes. The calls
+   that draw from a state or from the generator encipher by four tables of words, 4 KB, always. The cipher that goes
+   byte by byte reads the S-box for blocks too and nothing else: a smaller leak, not none. It is there for firmware that
+   enciphers under keys of its own where such traces matter (fortuna_aes256_bytewise_block).
 
    Numbers returned: FORTUNA_DONE, or the number of a refusal, the first in the order of the list below where more
    than one applies. After a refusal buffers and state are as before; pools emptied are 0. FORTUNA_NONE_DRAWN differs:
