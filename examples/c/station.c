@@ -103,6 +103,23 @@ static void show_edition(void)
     print_bytes(digest, sizeof digest);
 }
 
+/* The known answer of FIPS 197, C.3, from both ciphers, as firmware may ask for it at each start: by tables, which is
+   the faster and what the station itself uses, and byte by byte. */
+static void show_ciphers(void)
+{
+    uint8_t key[32], by_tables[16], bytewise[16];
+    for (size_t i = 0; i < sizeof key; i++)
+        key[i] = (uint8_t)i;
+    for (size_t i = 0; i < sizeof by_tables; i++)
+        by_tables[i] = bytewise[i] = (uint8_t)(0x11 * i);
+    fortuna_aes256_block(fortuna_aes256_expand(key), by_tables);
+    fortuna_aes256_bytewise_block(fortuna_aes256_bytewise_expand(key), bytewise);
+    printf("AES-256 by tables: ");
+    print_bytes(by_tables, sizeof by_tables);
+    printf("AES-256 byte by byte: ");
+    print_bytes(bytewise, sizeof bytewise);
+}
+
 /* Stands in for a sensor, of whose readings the low 8 bits are used. Source 2 gets stuck: it repeats one reading from
    turn 40 on. */
 static uint32_t reading(uint32_t number, uint32_t turn, uint32_t i)
@@ -347,6 +364,7 @@ static void start_twice(void)
 int main(void)
 {
     show_edition();
+    show_ciphers();
 
     /* Fresh at each start, with the seed to go on from. A state kept from before the 2010 edition's D could give wrong
        keys, and nothing would tell: the header says why. */

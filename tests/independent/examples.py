@@ -1,6 +1,6 @@
 #!/usr/bin/env python3
-"""What the programs in examples/ must print, worked out by station.py, for the log by logbook.py, and for the reading
-that fails a health test by health.py, from all readings of the source at once.
+"""What the programs in examples/ must print, worked out by station.py, for the ciphers by aes256.py, for the log by
+logbook.py, and for the reading that fails a health test by health.py, from all readings of the source at once.
 
     tests/independent/examples.py                  prints it
     tests/independent/examples.py --check FILE     exits 1 where FILE differs"""
@@ -10,6 +10,7 @@ import sys
 import generator
 import logbook
 import station
+from aes256 import encrypt
 from health import FRESH, Health
 
 SEED = b"a seed from the workshop, other bytes for each digitiser".ljust(64, b"\0")
@@ -81,6 +82,9 @@ def works_lines():
 
 def lines():
     yield f"D of abc: {generator.sha_d256(b'abc').hex()}"
+    known = encrypt(bytes(range(32)), bytes(range(0, 256, 17))).hex()
+    yield f"AES-256 by tables: {known}"
+    yield f"AES-256 byte by byte: {known}"
     early = station.request(station.FRESH, 0, bytes(32))
     yield f"key at 0 ms: refused, {early.number} (no seed and too little noise)"
     updated = station.update(early.next, 10, SEED)
@@ -116,7 +120,7 @@ def main(args):
     with open(args[1], encoding="ascii") as stored:
         if stored.read() == text:
             return 0
-    print(f"{args[1]}: not what station.py, logbook.py and health.py in tests/independent work out", file=sys.stderr)
+    print(f"{args[1]}: not what the programs in tests/independent work out", file=sys.stderr)
     return 1
 
 

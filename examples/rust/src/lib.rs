@@ -205,9 +205,14 @@ const _: () = assert!(offset_of!(State, key_requests) == 3386);
 const _: () = assert!(size_of::<HealthState>() == 20 && offset_of!(HealthState, seen) == 16);
 const _: () = assert!(size_of::<HealthAnswer>() == 16 && offset_of!(HealthAnswer, place) == 8);
 const _: () = assert!(offset_of!(HealthAnswer, proportion) == 5);
+const _: () = assert!(size_of::<Aes256>() == 240 && size_of::<Aes256Bytewise>() == 240);
 
 extern "C" {
     fn fortuna_sha_d256(data: *const u8, length: usize, digest: *mut [u8; 32]) -> u32;
+    fn fortuna_aes256_expand(key: *const [u8; 32]) -> Aes256;
+    fn fortuna_aes256_block(key: Aes256, block: *mut [u8; 16]);
+    fn fortuna_aes256_bytewise_expand(key: *const [u8; 32]) -> Aes256Bytewise;
+    fn fortuna_aes256_bytewise_block(key: Aes256Bytewise, block: *mut [u8; 16]);
     fn fortuna_new() -> State;
     fn fortuna_event(
         state: *mut State,
@@ -355,6 +360,43 @@ pub fn sha_d256(data: &[u8]) -> Result<[u8; 32], Refusal> {
     match unsafe { fortuna_sha_d256(data.as_ptr(), data.len(), &mut digest) } {
         0 => Ok(digest),
         number => Err(Refusal::from_number(number)),
+    }
+}
+
+/// AES-256 encryption by tables, under a key of the caller's own. The header's 'Traces' says when to take
+/// `Aes256Bytewise`.
+#[repr(C)]
+#[derive(Clone, Copy)]
+pub struct Aes256 {
+    words: [u32; 60],
+}
+
+impl Aes256 {
+    pub fn new(key: &[u8; 32]) -> Aes256 {
+        unsafe { fortuna_aes256_expand(key) }
+    }
+
+    pub fn encrypt(&self, mut block: [u8; 16]) -> [u8; 16] {
+        unsafe { fortuna_aes256_block(*self, &mut block) };
+        block
+    }
+}
+
+/// The same byte by byte: slower, and it reads a smaller table.
+#[repr(C)]
+#[derive(Clone, Copy)]
+pub struct Aes256Bytewise {
+    words: [u8; 240],
+}
+
+impl Aes256Bytewise {
+    pub fn new(key: &[u8; 32]) -> Aes256Bytewise {
+        unsafe { fortuna_aes256_bytewise_expand(key) }
+    }
+
+    pub fn encrypt(&self, mut block: [u8; 16]) -> [u8; 16] {
+        unsafe { fortuna_aes256_bytewise_block(*self, &mut block) };
+        block
     }
 }
 

@@ -7,7 +7,9 @@
 //!
 //! One call at a time on a state: `main` owns it, and each call borrows it alone. Noise from interrupts or other
 //! threads would come through a queue.
-use fortuna::{run_log, sha_d256, Drawn, Fortuna, Health, NotPassed, Refusal};
+use fortuna::{
+    run_log, sha_d256, Aes256, Aes256Bytewise, Drawn, Fortuna, Health, NotPassed, Refusal,
+};
 
 /// A source may be any number up to 65,535.
 const SOURCES: [u32; 3] = [1, 2, 900];
@@ -57,6 +59,17 @@ fn hexadecimal(bytes: &[u8]) -> String {
 fn show_edition() -> Result<(), Refusal> {
     println!("D of abc: {}", hexadecimal(&sha_d256(b"abc")?));
     Ok(())
+}
+
+/// The known answer of FIPS 197, C.3, from both ciphers, as firmware may ask for it at each start: by tables, which is
+/// the faster and what the station itself uses, and byte by byte.
+fn show_ciphers() {
+    let key = std::array::from_fn(|i| i as u8);
+    let text: [u8; 16] = std::array::from_fn(|i| 0x11 * i as u8);
+    let by_tables = Aes256::new(&key).encrypt(text);
+    let bytewise = Aes256Bytewise::new(&key).encrypt(text);
+    println!("AES-256 by tables: {}", hexadecimal(&by_tables));
+    println!("AES-256 byte by byte: {}", hexadecimal(&bytewise));
 }
 
 /// Whether readings may become an event. After a failing sample none of those that it came with is used, nor any later
@@ -250,6 +263,7 @@ fn start_twice() -> Result<(), Refusal> {
 
 fn main() -> Result<(), Refusal> {
     show_edition()?;
+    show_ciphers();
 
     // Fresh at each start, with the seed to go on from.
     let mut f = Fortuna::new();
