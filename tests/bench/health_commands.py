@@ -278,8 +278,8 @@ def ended_by(words, number, folder, played, given):
         env=given,
         stdout=subprocess.PIPE,
         stderr=subprocess.PIPE,
-        # a shell has its background commands ignore it, and they hand that on
-        preexec_fn=lambda: signal.signal(signal.SIGINT, signal.SIG_DFL),
+        # a shell has its background commands ignore SIGINT, nohup has them ignore SIGHUP, and they hand that on
+        preexec_fn=lambda: signal.signal(number, signal.SIG_DFL),
     )
     wait_for(played / "asked", words)
     started.send_signal(number)
