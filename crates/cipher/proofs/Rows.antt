@@ -8,6 +8,15 @@ use Rattle.laws.specs.Lists.{tabulate}
 use Rattle.cipher.specs.Field.{xtime, multiply, product, powerProduct, inverse, bit, affineBit, affineFrom, affine, subByte}
 use Rattle.cipher.specs.Aes.{wordAt, rotWord, rcon, xPower, subBytes, shiftRows, mixedByte, mixColumns, addRoundKey, round, rounds, cipherWith, temp, nextWord, withNextWord, expand, keyExpansion, cipher}
 
+-- the substitution, and the key expansion: whatever unfolds one of these unfolds all that its own line names
+unfoldable substituting : Unit {0}
+unfolding xtime multiply product powerProduct inverse bit affineBit affineFrom affine subByte
+substituting = tt
+
+unfoldable expanding : Unit {0}
+unfolding keyExpansion expand withNextWord nextWord temp xPower substituting
+expanding = tt
+
 -- {57} by {02}, {04}, {08}, {10}, {13}, {83} (4.2, 4.2.1)
 pub products : map (product 0x57) (0x02 ∷ 0x04 ∷ 0x08 ∷ 0x10 ∷ 0x13 ∷ 0x83 ∷ []) ≡ 0xae ∷ 0x47 ∷ 0x8e ∷ 0x07 ∷ 0xfe ∷ 0xc1 ∷ []
 unfolding product multiply xtime
@@ -19,7 +28,7 @@ inverses = refl
 
 -- {53} is the example of 5.1.1; the table's first and last entries are figure 7's
 pub substitutions : map subByte (0x00 ∷ 0x01 ∷ 0x53 ∷ 0xff ∷ []) ≡ 0x63 ∷ 0x7c ∷ 0xed ∷ 0x16 ∷ []
-unfolding xtime multiply product powerProduct inverse bit affineBit affineFrom affine subByte
+unfolding substituting
 substitutions = refl
 
 -- row 1 goes one column to the left, row 2 two, row 3 three (figure 8)
@@ -43,11 +52,11 @@ pub rotated : rotWord (0x09 ∷ 0x14 ∷ 0xdf ∷ 0xf4 ∷ []) ≡ 0x14 ∷ 0xdf
 rotated = refl
 
 pub temp-8 : temp 8 (0x09 ∷ 0x14 ∷ 0xdf ∷ 0xf4 ∷ []) ≡ 0xfb ∷ 0x9e ∷ 0xbf ∷ 0x01 ∷ []
-unfolding temp xPower xtime multiply product powerProduct inverse bit affineBit affineFrom affine subByte
+unfolding temp xPower substituting
 temp-8 = refl
 
 pub temp-12 : temp 12 (0x20 ∷ 0x67 ∷ 0xfc ∷ 0xde ∷ []) ≡ 0xb7 ∷ 0x85 ∷ 0xb0 ∷ 0x1d ∷ []
-unfolding temp xtime multiply product powerProduct inverse bit affineBit affineFrom affine subByte
+unfolding temp substituting
 temp-12 = refl
 
 pub temp-13 : temp 13 (0xa8 ∷ 0xb0 ∷ 0x9c ∷ 0x1a ∷ []) ≡ 0xa8 ∷ 0xb0 ∷ 0x9c ∷ 0x1a ∷ []
@@ -62,7 +71,7 @@ a3-key =
 
 pub schedule : map (wordAt (keyExpansion a3-key)) (8 ∷ 12 ∷ 59 ∷ [])
     ≡ (0x9b ∷ 0xa3 ∷ 0x54 ∷ 0x11 ∷ []) ∷ (0xa8 ∷ 0xb0 ∷ 0x9c ∷ 0x1a ∷ []) ∷ (0x70 ∷ 0x6c ∷ 0x63 ∷ 0x1e ∷ []) ∷ []
-unfolding keyExpansion expand withNextWord nextWord temp xPower xtime multiply product powerProduct inverse bit affineBit affineFrom affine subByte
+unfolding expanding
 schedule = refl
 
 -- C.3: the key 00, 01, .., 1f and the block 00, 11, .., ff
@@ -81,7 +90,7 @@ c3-start = refl
 pub c3-sub-bytes : subBytes (0x00 ∷ 0x10 ∷ 0x20 ∷ 0x30 ∷ 0x40 ∷ 0x50 ∷ 0x60 ∷ 0x70 ∷ 0x80 ∷ 0x90 ∷ 0xa0 ∷ 0xb0 ∷ 0xc0 ∷ 0xd0
     ∷ 0xe0 ∷ 0xf0 ∷ [])
     ≡ 0x63 ∷ 0xca ∷ 0xb7 ∷ 0x04 ∷ 0x09 ∷ 0x53 ∷ 0xd0 ∷ 0x51 ∷ 0xcd ∷ 0x60 ∷ 0xe0 ∷ 0xe7 ∷ 0xba ∷ 0x70 ∷ 0xe1 ∷ 0x8c ∷ []
-unfolding tabulate subBytes xtime multiply product powerProduct inverse bit affineBit affineFrom affine subByte
+unfolding tabulate subBytes substituting
 c3-sub-bytes = refl
 
 pub c3-shift-rows : shiftRows (0x63 ∷ 0xca ∷ 0xb7 ∷ 0x04 ∷ 0x09 ∷ 0x53 ∷ 0xd0 ∷ 0x51 ∷ 0xcd ∷ 0x60 ∷ 0xe0 ∷ 0xe7 ∷ 0xba ∷ 0x70
@@ -98,5 +107,5 @@ c3-mix-columns = refl
 
 pub c3-cipher : cipher c3-key c3-block
     ≡ 0x8e ∷ 0xa2 ∷ 0xb7 ∷ 0xca ∷ 0x51 ∷ 0x67 ∷ 0x45 ∷ 0xbf ∷ 0xea ∷ 0xfc ∷ 0x49 ∷ 0x90 ∷ 0x4b ∷ 0x49 ∷ 0x60 ∷ 0x89 ∷ []
-unfolding cipher keyExpansion expand withNextWord nextWord temp xPower cipherWith rounds round tabulate subBytes shiftRows mixedByte mixColumns addRoundKey xtime multiply product powerProduct inverse bit affineBit affineFrom affine subByte
+unfolding cipher expanding cipherWith rounds round tabulate subBytes shiftRows mixedByte mixColumns addRoundKey
 c3-cipher = refl
