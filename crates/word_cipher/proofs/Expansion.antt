@@ -5,13 +5,12 @@ use mathlib.Core.Path.{_≡_, refl, sym, ap, ap₂, _∙_}
 use mathlib.Core.Logic.{⊎-elim}
 use mathlib.Core.List.{List}
 use native.Mathlib.Nat.{eq-or-lt-of-le}
-use native.Mathlib.Numerals.{add-one}
 use native.Mathlib.Omega.{arith}
 use borrow.Author.Tests.{ne-eqb}
 use lib.ListN.{length, take, set, length-set}
-use lib.Seq.{take-suc-set, getD-take, getD-set-same, getD-set-other, ext-getD}
+use lib.Seq.{getD-take, getD-set-same, getD-set-other, ext-getD}
 use Rattle.laws.specs.Lists.{tabulate}
-use Rattle.laws.proofs.Tabulate.{length-tabulate, getD-tabulate}
+use Rattle.laws.proofs.Tabulate.{length-tabulate, getD-tabulate, Filled}
 use Rattle.cipher.specs.Field.{_⊕_, subByte}
 use Rattle.cipher.specs.Aes.{at, Bytes, wordAt, xorWord, subWord, rotWord, rcon, xPower, temp, nextWord, keyExpansion}
 use Rattle.cipher.proofs.Bytes.{bytes-xor-word, bytes-sub-word, bytes-rcon, bytes-word-at, bytes-key-expansion}
@@ -178,22 +177,10 @@ module _ (key : List ℕ) (n : length key ≡ 32) (b : Bytes key) where
 
 -- ---- the loops of the code
 
--- the key's first k words are loaded
-abbrev pub Loaded : List ℕ → List ℕ → ℕ → Type 0
-Loaded key w k = (k ≤ 8) × (length w ≡ 60) × (take k w ≡ packed k key)
-
-pub loaded-none : (key w : List ℕ) → length w ≡ 60 → Loaded key w 0
-unfolding packed tabulate
-loaded-none key w l = (omega arith, l, refl)
-
-pub loaded-more : (key w : List ℕ) (k v : ℕ) → Loaded key w k → k < 8 → v ≡ wordIn key k → Loaded key (set w k v) (k + 1)
-unfolding packed tabulate
-loaded-more key w k v (b, l, e) h f =
-    let m : k < length w = omega arith in
-    (omega arith, length-set w k v ∙ l, rw add-one (take-suc-set w k v m ∙ rw (e, f) refl))
-
-pub loaded-all : (key w : List ℕ) (k : ℕ) → Loaded key w k → 8 ≤ k → take 8 w ≡ packed 8 key
-loaded-all key w k (b, l, e) h = let m : k ≡ 8 = omega arith in rw m at e
+-- the key's words are loaded
+pub loaded : (key w : List ℕ) (k : ℕ) → Filled (wordIn key) 60 w k → k ≤ 8 → 8 ≤ k → take 8 w ≡ packed 8 key
+unfolding packed
+loaded key w k (b, l, e) low high = let m : k ≡ 8 = omega arith in rw m at e
 
 -- the words before i are those of whatever key the first 8 words are: the loop no longer sees the key
 abbrev pub Grown : List ℕ → List ℕ → ℕ → Type 0
