@@ -6,13 +6,13 @@ use mathlib.Core.List.{List, [], _∷_, _++_}
 use native.Mathlib.Nat.{pow-suc}
 use native.Mathlib.Omega.{arith}
 use lib.Bits.{xor-lt}
-use lib.Dec.{eqb, ltb}
+use lib.Dec.{T, eqb, ltb}
 use lib.ListN.{length, List·getD-append, List·getD-eq-default}
 use lib.Seq.{getD-append-add}
 use borrow.Author.Tests.{ltb-true, ltb-false}
 use Rattle.laws.specs.Lists.{tabulate}
 use Rattle.laws.proofs.Cases.{split, by-test}
-use Rattle.laws.proofs.Tables.{agree-at}
+use Rattle.laws.proofs.Tables.{agree, agree-at}
 use Rattle.laws.proofs.Tabulate.{length-tabulate, getD-tabulate}
 use Rattle.cipher.specs.Field.{xtime, multiply, product, affineBit, affineFrom, affine, subByte}
 use Rattle.cipher.specs.Aes.{at, Bytes, wordAt, xorWord, subWord, rotWord, rcon, xPower, temp, nextWord, withNextWord, expand, keyExpansion, subBytes, shiftRows, mixedByte, mixColumns, addRoundKey, round, rounds}
@@ -48,12 +48,14 @@ pub sub-byte-lt : (b : ℕ) → subByte b < 256
 unfolding subByte affine
 sub-byte-lt b = affine-from-lt _ 0 8
 
+-- a function whose values at bytes are bytes, by one test over the 256
+byte-at : (f : ℕ → ℕ) → T (agree (λ y. f y / 256) (λ y. 0) 256) → (x : ℕ) → x < 256 → f x < 256
+byte-at f t x h = let e : f x / 256 ≡ 0 = agree-at (λ y. f y / 256) (λ y. 0) 256 t x h in omega arith
+
 x-power-lt : (n : ℕ) → xPower n < 256
 unfolding xPower xtime
 x-power-lt zero = omega arith
-x-power-lt (suc n) =
-    let e : xtime (xPower n) / 256 ≡ 0 = agree-at (λ y. xtime y / 256) (λ y. 0) 256 tt (xPower n) (x-power-lt n) in
-    omega arith
+x-power-lt (suc n) = byte-at xtime tt (xPower n) (x-power-lt n)
 
 pub bytes-xor-word : (s t : List ℕ) → Bytes s → Bytes t → Bytes (xorWord s t)
 bytes-xor-word s t p q =
@@ -97,15 +99,11 @@ bytes-key-expansion key p = bytes-expand key 52 p
 -- {02} and {03} times a byte
 pub twice-lt : (x : ℕ) → x < 256 → product 0x02 x < 256
 unfolding product multiply xtime
-twice-lt x h =
-    let e : product 0x02 x / 256 ≡ 0 = agree-at (λ y. product 0x02 y / 256) (λ y. 0) 256 tt x h in
-    omega arith
+twice-lt = byte-at (product 0x02) tt
 
 pub thrice-lt : (x : ℕ) → x < 256 → product 0x03 x < 256
 unfolding product multiply xtime
-thrice-lt x h =
-    let e : product 0x03 x / 256 ≡ 0 = agree-at (λ y. product 0x03 y / 256) (λ y. 0) 256 tt x h in
-    omega arith
+thrice-lt = byte-at (product 0x03) tt
 
 pub bytes-shifted : (s : List ℕ) → Bytes (shiftRows (subBytes s))
 unfolding shiftRows subBytes

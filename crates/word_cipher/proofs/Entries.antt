@@ -23,7 +23,7 @@ unfolding tables
 entry-at k x i l h e =
     let row : i / 256 ≡ k = omega arith in
     let place : i % 256 ≡ x = omega arith in
-    getD-tabulate (λ j. entry (j / 256) (j % 256)) 0 1024 i (omega arith) ∙ rw (row, place) refl
+    getD-tabulate (λ j. entry (j / 256) (j % 256)) 0 _ i (omega arith) ∙ rw (row, place) refl
 
 -- one test over the four rows and the 256 bytes of each, which antt computes
 spread-mixes : (k s : ℕ) → k < 4 → s < 256 → spread k s ≡ wordIn (mixColumns (alone k s)) 0
