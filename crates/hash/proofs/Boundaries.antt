@@ -3,11 +3,12 @@
 use mathlib.Core.Path.{refl}
 use Rattle.laws.specs.Lists.{tabulate}
 use Rattle.hash.specs.Padding.{zeroBytes, padding}
+use Rattle.hash.specs.Prepared.{prepared, preparedRound}
 use Rattle.hash.specs.Hasher.{zeroFilled, absorbFrom, absorb, finish}
 use Rattle.hash.specs.ShaD.{zeroBlock, D, maxMessage, maxDMessage, maxPoolLength, withZeroBlock, poolDigest}
 use Rattle.hash.specs.Answers.{lengthNumber}
-use Rattle.hash.specs.Boundaries.{messages, digests, passed, PaddingsRow, LengthsRow, MessageLimitRow, ShaDLimitRow, PoolLimitRow, StandardRow, EdgesRow, ShaDRow, FinishesRow, PoolDigestsRow, AbsorbsRow, LongestRow, Boundaries}
-use Rattle.hash.proofs.Computing.{digesting}
+use Rattle.hash.specs.Boundaries.{messages, digests, passed, PaddingsRow, LengthsRow, PreparedWordsRow, FirstRoundRow, MessageLimitRow, ShaDLimitRow, PoolLimitRow, StandardRow, EdgesRow, ShaDRow, FinishesRow, PoolDigestsRow, AbsorbsRow, LongestRow, Boundaries}
+use Rattle.hash.proofs.Computing.{compressing, digesting}
 
 paddings : PaddingsRow
 unfolding tabulate zeroBytes padding
@@ -16,6 +17,14 @@ paddings = refl
 lengths : LengthsRow
 unfolding tabulate zeroBytes padding
 lengths = refl
+
+prepared-words : PreparedWordsRow
+unfolding compressing prepared
+prepared-words = refl
+
+first-round : FirstRoundRow
+unfolding compressing prepared preparedRound
+first-round = refl
 
 message-limit : MessageLimitRow
 unfolding lengthNumber maxMessage
@@ -62,6 +71,8 @@ boundaries =
     record {
       paddings = paddings;
       lengths = lengths;
+      preparedWords = prepared-words;
+      firstRound = first-round;
       messageLimit = message-limit;
       shaDLimit = sha-d-limit;
       poolLimit = pool-limit;

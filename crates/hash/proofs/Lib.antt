@@ -1,5 +1,6 @@
 pub mod Bitwise
 pub mod Rounds
+pub mod Prepared
 pub mod Schedule
 pub mod Message
 pub mod Padding

@@ -3,8 +3,11 @@
 use mathlib.Core.Path.{_≡_}
 use mathlib.Core.List.{List, [], _∷_, _++_, map}
 use Prim.Native.Nat.{ℕ, _+_, _-_, _^_}
-use lib.ListN.{length, take, drop, replicate}
+use lib.ListN.{length, getD, take, drop, replicate}
+use Rattle.hash.specs.Constants.{H⁰}
 use Rattle.hash.specs.Padding.{padding}
+use Rattle.hash.specs.Block.{initialWorking}
+use Rattle.hash.specs.Prepared.{prepared, preparedRound}
 use Rattle.hash.specs.Sha256.{sha256}
 use Rattle.hash.specs.Hasher.{absorb, finish}
 use Rattle.hash.specs.ShaD.{D, maxMessage, maxDMessage, maxPoolLength, poolDigest}
@@ -46,6 +49,27 @@ abbrev pub LengthsRow : Type 0
 LengthsRow =
     map (λ (n : ℕ). drop (length (padding n) - 8) (padding n)) (0x0001_0203_0405_0607 ∷ (2 ^ 61 - 1) ∷ [])
     ≡ (0 ∷ 8 ∷ 16 ∷ 24 ∷ 32 ∷ 40 ∷ 48 ∷ 56 ∷ []) ∷ (255 ∷ 255 ∷ 255 ∷ 255 ∷ 255 ∷ 255 ∷ 255 ∷ 248 ∷ []) ∷ []
+
+-- prepared words: one sum past 2 ^ 32, one with the word 0, one that is 2 ^ 32, one that is 2 ^ 32 - 1; the last; none behind it
+abbrev pub PreparedWordsRow : Type 0
+PreparedWordsRow =
+    map (λ (t : ℕ). getD (prepared (0xffff_ffff ∷ 0 ∷ 0x4a3f_0431 ∷ 0x164a_245a ∷ [])) t 0) (0 ∷ 1 ∷ 2 ∷ 3 ∷ 63 ∷ 64 ∷ [])
+    ≡ 0x428a_2f97 ∷ 0x7137_4491 ∷ 0 ∷ 0xffff_ffff ∷ 0xc671_78f2 ∷ 0 ∷ []
+
+-- the first round of 'abc' with its prepared word: the working variables of NIST's worked example
+abbrev pub FirstRoundRow : Type 0
+FirstRoundRow =
+    preparedRound (initialWorking H⁰) (getD (prepared (0x6162_6380 ∷ [])) 0 0) ≡
+    record {
+      a = 0x5d6a_ebcd;
+      b = 0x6a09_e667;
+      c = 0xbb67_ae85;
+      d = 0x3c6e_f372;
+      e = 0xfa2a_4622;
+      f = 0x510e_527f;
+      g = 0x9b05_688c;
+      h = 0x1f83_d9ab;
+    }
 
 -- 17 above 2 ^ 61 - 1 bytes for a message, above 2 ^ 61 - 65 for D and for a pool
 abbrev pub MessageLimitRow : Type 0
@@ -103,6 +127,8 @@ LongestRow =
 pub record Boundaries : Type 0 where
   pub paddings : PaddingsRow
   pub lengths : LengthsRow
+  pub preparedWords : PreparedWordsRow
+  pub firstRound : FirstRoundRow
   pub messageLimit : MessageLimitRow
   pub shaDLimit : ShaDLimitRow
   pub poolLimit : PoolLimitRow

@@ -2,6 +2,7 @@ pub mod Word
 pub mod Constants
 pub mod Padding
 pub mod Block
+pub mod Prepared
 pub mod Sha256
 pub mod Hasher
 pub mod ShaD

@@ -1,16 +1,19 @@
--- What FIPS 180-4, 5.1.1 says of the padding, in its own words and in bits; what a pool has to do with D; and that numbers
--- tell answers apart.
+-- What FIPS 180-4, 5.1.1 says of the padding, in its own words and in bits; that prepared words lead to the standard's
+-- compression; what a pool has to do with D; and that numbers tell answers apart.
 -- Assumes nothing.
 use mathlib.Core.Path.{_≡_}
 use mathlib.Core.List.{List, _++_}
 use Prim.Native.Nat.{ℕ, _+_, _*_, _%_, _≤_}
 use lib.ListN.{length}
 use Rattle.hash.specs.Padding.{zeroBytes, padding}
+use Rattle.hash.specs.Word.{_⊞_}
 use Rattle.hash.specs.Constants.{H⁰}
-use Rattle.hash.specs.Block.{compress}
+use Rattle.hash.specs.Block.{schedule, round, compress}
+use Rattle.hash.specs.Prepared.{prepared, preparedRound, preparedCompress}
 use Rattle.hash.specs.ShaD.{zeroBlock, D, zeroBlockHash, poolOf, poolDigest}
 use Rattle.hash.specs.Answers.{number}
 use Rattle.hash.specs.declared.answer.Answer.{Answer}
+use Rattle.hash.specs.declared.block.Working.{Working}
 
 -- the count of zero bits after the bit 1: seven in the byte 128, eight in each zero byte
 abbrev pub zeroBits : ℕ → ℕ
@@ -28,6 +31,14 @@ pub record PaddingLeast (n : ℕ) : Type 0 where
 -- a padded message is whole blocks
 abbrev pub PaddedWhole : List ℕ → Type 0
 PaddedWhole m = length (m ++ padding (length m)) % 64 ≡ 0
+
+-- from every working state, a round that takes constant and word as one sum modulo 2 ^ 32 gives what the standard's gives (02 (ix))
+abbrev pub PreparedRound : Type 0
+PreparedRound = (s : Working) (k w : ℕ) → preparedRound s (k ⊞ w) ≡ round s k w
+
+-- the schedule of every block, with the constants in it, leads to the standard's compression (02 (ix))
+abbrev pub PreparedCompression : Type 0
+PreparedCompression = (h m : List ℕ) → preparedCompress h (prepared (schedule m 64)) ≡ compress h m
 
 -- the hash value that an empty pool starts from is SHA-256's after the zero block
 abbrev pub ZeroBlockHash : Type 0

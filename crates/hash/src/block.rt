@@ -7,10 +7,12 @@ use crate::word::sigma0;
 use crate::word::sigma1;
 use std::num::wrapping_add_u32;
 ghost use mathlib.Core.Path.{_≡_};
-ghost use Prim.Native.Nat.{_+_, _*_, _<_, _≤_};
+ghost use Prim.Native.Nat.{ℕ, _+_, _*_, _<_, _≤_};
 ghost use lib.ListN.{length, getD, take};
+ghost use Rattle.hash.specs.Word.{_⊞_};
 ghost use Rattle.hash.specs.Constants.{K};
-ghost use Rattle.hash.specs.Block.{blockWord, nextWord, schedule, initialWorking, T₁, T₂, round, rounds, addWorking, compress};
+ghost use Rattle.hash.specs.Block.{blockWord, nextWord, schedule, initialWorking, T₁, T₂, round, addWorking, compress};
+ghost use Rattle.hash.specs.Prepared.{prepared, preparedRound, preparedRounds};
 
 // The working variables.
 pub struct Working {
@@ -163,18 +165,30 @@ fn scheduled(block: &[u8]) -> [u32; 64]
     w
 }
 
-fn temp1(s: Working, k: u32, w: u32) -> u32
-    ensures { λ r. ⌜ r ≡ T₁ s k w ⌝ }
+// The words that the rounds take: the schedule's, each with its round's constant in it.
+fn prepared(k: &[u32; 64], w: &[u32; 64]) -> [u32; 64]
+    requires { ⌜ now k ≡ K ⌝ }
+    ensures { λ r. ⌜ r ≡ prepared (now (w .entry)) ⌝ }
+{
+    let mut p = [0u32; 64];
+    let mut t: usize = 0;
+    while t < 64 {
+        p[t] = wrapping_add_u32(k[t], w[t]);
+        t = t + 1;
+    }
+    p
+}
+
+// T1 with the prepared word x: there is no constant left to add.
+fn temp1(s: Working, x: u32) -> u32
+    ensures { λ r. ⌜ r ≡ T₁ s 0 x ⌝ }
 {
     wrapping_add_u32(
         wrapping_add_u32(
-            wrapping_add_u32(
-                wrapping_add_u32(s.h, big_sigma1(s.e)),
-                choice(s.e, s.f, s.g),
-            ),
-            k,
+            wrapping_add_u32(s.h, big_sigma1(s.e)),
+            choice(s.e, s.f, s.g),
         ),
-        w,
+        x,
     )
 }
 
@@ -184,11 +198,11 @@ fn temp2(s: Working) -> u32
     wrapping_add_u32(big_sigma0(s.a), majority(s.a, s.b, s.c))
 }
 
-// One round.
-fn round(s: Working, k: u32, w: u32) -> Working
-    ensures { λ r. ⌜ r ≡ round s k w ⌝ }
+// One round with the prepared word x: the standard's, for every constant and word of which x is the sum.
+fn round(s: Working, x: u32) -> Working
+    ensures { λ r. ⌜ (r ≡ preparedRound s x) × ((k w : ℕ) → x ≡ k ⊞ w → r ≡ round s k w) ⌝ }
 {
-    let t1 = temp1(s, k, w);
+    let t1 = temp1(s, x);
     let t2 = temp2(s);
     Working {
         a: wrapping_add_u32(t1, t2),
@@ -202,37 +216,36 @@ fn round(s: Working, k: u32, w: u32) -> Working
     }
 }
 
-fn round_at(s: Working, k: &[u32; 64], w: &[u32; 64], t: usize) -> Working
-    requires { ⌜ (t < 64) × (now k ≡ K) ⌝ }
-    ensures { λ r. ⌜ r ≡ round s (getD K t 0) (getD (now (w .entry)) t 0) ⌝ }
+fn round_at(s: Working, p: &[u32; 64], t: usize) -> Working
+    requires { ⌜ t < 64 ⌝ }
+    ensures { λ r. ⌜ r ≡ preparedRound s (getD (now (p .entry)) t 0) ⌝ }
 {
-    round(s, k[t], w[t])
+    round(s, p[t])
 }
 
 // Eight rounds, after which each working variable is in its register again.
-fn eight_rounds(s: Working, k: &[u32; 64], w: &[u32; 64], t: usize) -> Working
-    requires { ⌜ (t + 8 ≤ 64) × (now k ≡ K) ⌝ }
-    ensures { λ r. ⌜ r ≡ rounds (now (w .entry)) t 8 s ⌝ }
+fn eight_rounds(s: Working, p: &[u32; 64], t: usize) -> Working
+    requires { ⌜ t + 8 ≤ 64 ⌝ }
+    ensures { λ r. ⌜ r ≡ preparedRounds (now (p .entry)) t 8 s ⌝ }
 {
-    let s1 = round_at(s, k, w, t);
-    let s2 = round_at(s1, k, w, t + 1);
-    let s3 = round_at(s2, k, w, t + 2);
-    let s4 = round_at(s3, k, w, t + 3);
-    let s5 = round_at(s4, k, w, t + 4);
-    let s6 = round_at(s5, k, w, t + 5);
-    let s7 = round_at(s6, k, w, t + 6);
-    round_at(s7, k, w, t + 7)
+    let s1 = round_at(s, p, t);
+    let s2 = round_at(s1, p, t + 1);
+    let s3 = round_at(s2, p, t + 2);
+    let s4 = round_at(s3, p, t + 3);
+    let s5 = round_at(s4, p, t + 4);
+    let s6 = round_at(s5, p, t + 5);
+    let s7 = round_at(s6, p, t + 6);
+    round_at(s7, p, t + 7)
 }
 
-// The 64 rounds with the schedule w.
-fn all_rounds(start: Working, k: &[u32; 64], w: &[u32; 64]) -> Working
-    requires { ⌜ now k ≡ K ⌝ }
-    ensures { λ r. ⌜ r ≡ rounds (now (w .entry)) 0 64 start ⌝ }
+// The 64 rounds with the prepared words p.
+fn all_rounds(start: Working, p: &[u32; 64]) -> Working
+    ensures { λ r. ⌜ r ≡ preparedRounds (now (p .entry)) 0 64 start ⌝ }
 {
     let mut s = start;
     let mut t: usize = 0;
     while t < 64 {
-        s = eight_rounds(s, k, w, t);
+        s = eight_rounds(s, p, t);
         t = t + 8;
     }
     s
@@ -276,6 +289,7 @@ pub(crate) fn compress(chain: [u32; 8], k: &[u32; 64], block: &[u8]) -> [u32; 8]
     ensures { λ r. ⌜ r ≡ compress chain (now (block .entry)) ⌝ }
 {
     let w = scheduled(block);
-    let s = all_rounds(initial_working(chain), k, &w);
+    let p = prepared(k, &w);
+    let s = all_rounds(initial_working(chain), &p);
     added(chain, s)
 }

@@ -4,27 +4,24 @@ use mathlib.Core.Path.{_≡_, refl, sym, _∙_}
 use Prim.Native.Nat.{_≤_, _-_, _%_}
 use native.Mathlib.Nat.{zero-add}
 use native.Mathlib.Omega.{arith}
-use Rattle.hash.specs.Block.{rounds}
+use Rattle.hash.specs.Prepared.{preparedRounds}
 use Rattle.hash.proofs.Rounds.{rounds-add}
 use borrow.Author.Needs.{needs}
 use Rattle.hash.proofs.block.all_rounds.Statement.{statement}
 use Rattle.hash.proofs.block.all_rounds.Tie as tie
 
--- `hash::block::all_rounds` meets its contract.
--- Assumes nothing.
-
 abbrev Inv-loop : tie.InvT-loop
-Inv-loop k w s₀ t₀ s t = (t ≤ 64) × (t % 8 ≡ 0) × (s ≡ rounds w 0 t s₀)
+Inv-loop p s₀ t₀ s t = (t ≤ 64) × (t % 8 ≡ 0) × (s ≡ preparedRounds p 0 t s₀)
 
 abbrev μ-loop : tie.MeasureT-loop
-μ-loop k w s₀ t₀ s t = 64 - t
+μ-loop p s₀ t₀ s t = 64 - t
 
 loop-holds : tie.Need-loop-holds Inv-loop μ-loop
-unfolding rounds
+unfolding preparedRounds
 loop-holds c = (omega arith, refl, refl)
 
 eight-rounds-requires : tie.Need-eight-rounds-requires Inv-loop μ-loop
-eight-rounds-requires c κs = (omega arith, c .before .before .pre)
+eight-rounds-requires c κs = omega arith
 
 add-t : tie.Need-add-t Inv-loop μ-loop
 add-t c = search needs

@@ -1,12 +1,16 @@
 -- `hash::block::compress` meets its contract.
 -- Assumes nothing.
-use Rattle.hash.specs.Block.{compress}
+use Rattle.hash.specs.Prepared.{preparedCompress}
+use Rattle.hash.proofs.Prepared.{by-prepared}
 use borrow.Author.Needs.{needs}
 use Rattle.hash.proofs.block.compress.Statement.{statement}
 use Rattle.hash.proofs.block.compress.Tie as tie
 
 scheduled-requires : tie.Need-scheduled-requires
 scheduled-requires c κs = search needs
+
+prepared-requires : tie.Need-prepared-requires
+prepared-requires c κs = search needs
 
 initial-working-requires : tie.Need-initial-working-requires
 initial-working-requires c κs = search needs
@@ -18,14 +22,15 @@ added-requires : tie.Need-added-requires
 added-requires c κs = search needs
 
 returns : tie.Need-returns
-unfolding compress
-returns c = cc
+unfolding preparedCompress
+returns c = by-prepared _ _ _ cc
 
 pub compress-spec : {M : Type 1} → statement M
 compress-spec =
     tie.close
     (tie.spec
     scheduled-requires
+    prepared-requires
     initial-working-requires
     all-rounds-requires
     added-requires

@@ -62,10 +62,10 @@ round-at-requires-8 c κs = search needs
 returns : tie.Need-returns
 returns c =
     let a = c .before .before .before .before .before .before .before .before .args in
-    let w = a .w .now in
+    let p = a .p .now in
     let t = a .t in
     let s = a .s in
-    rounds-next w t s 7 _ _ (rounds-next w t s 6 _ _ (rounds-next w t s 5 _ _ (rounds-next w t s 4 _ _ (rounds-next w t s 3 _ _ (rounds-next w t s 2 _ _ (rounds-next w t s 1 _ _ (rounds-one w t s _ (c .before .before .before .before .before .before .before .round-at .ensures)) (c .before .before .before .before .before .before .round-at2 .ensures)) (c .before .before .before .before .before .round-at3 .ensures)) (c .before .before .before .before .round-at4 .ensures)) (c .before .before .before .round-at5 .ensures)) (c .before .before .round-at6 .ensures)) (c .before .round-at7 .ensures)) (c .round-at8 .ensures)
+    rounds-next p t s 7 _ _ (rounds-next p t s 6 _ _ (rounds-next p t s 5 _ _ (rounds-next p t s 4 _ _ (rounds-next p t s 3 _ _ (rounds-next p t s 2 _ _ (rounds-next p t s 1 _ _ (rounds-one p t s _ (c .before .before .before .before .before .before .before .round-at .ensures)) (c .before .before .before .before .before .before .round-at2 .ensures)) (c .before .before .before .before .before .round-at3 .ensures)) (c .before .before .before .before .round-at4 .ensures)) (c .before .before .before .round-at5 .ensures)) (c .before .before .round-at6 .ensures)) (c .before .round-at7 .ensures)) (c .round-at8 .ensures)
 
 pub eight-rounds-spec : {M : Type 1} → statement M
 eight-rounds-spec =

@@ -1,6 +1,8 @@
 -- `hash::block::round` meets its contract.
 -- Assumes nothing.
 use Rattle.hash.specs.Block.{round}
+use Rattle.hash.specs.Prepared.{preparedRound}
+use Rattle.hash.proofs.Prepared.{takes-sum}
 use borrow.Author.Needs.{needs}
 use Rattle.hash.proofs.block.round.Statement.{statement}
 use Rattle.hash.proofs.block.round.Tie as tie
@@ -18,8 +20,8 @@ wrapping-add-u32-requires-2 : tie.Need-wrapping-add-u32-requires-2
 wrapping-add-u32-requires-2 c κs = search needs
 
 returns : tie.Need-returns
-unfolding round
-returns c = cc
+unfolding preparedRound round
+returns c = takes-sum _ _ _ cc
 
 pub round-spec : {M : Type 1} → statement M
 round-spec =
