@@ -1,4 +1,3 @@
-pub mod Xor
 pub mod FieldClaims
 pub mod StateClaims
 pub mod Schedule

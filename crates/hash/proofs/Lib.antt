@@ -1,4 +1,5 @@
 pub mod Bitwise
+pub mod Rotations
 pub mod Rounds
 pub mod Prepared
 pub mod Schedule

@@ -45,7 +45,7 @@ pub prepared-rounds : (w : List ℕ) (t n : ℕ) (s : Working) → t + n ≤ 64 
 unfolding prepared preparedRounds rounds
 prepared-rounds w t zero s h = refl
 prepared-rounds w t (suc n) s h =
-    ap₂ preparedRound (prepared-rounds w t n s (omega arith)) (getD-tabulate (preparedWord w) 0 64 (t + n) (omega arith))
+    ap₂ preparedRound (prepared-rounds w t n s (omega arith)) (getD-tabulate (preparedWord K w) 0 64 (t + n) (omega arith))
     ∙ prepared-round (rounds w t n s) (getD K (t + n) 0) (getD w (t + n) 0)
 
 pub prepared-compression : PreparedCompression

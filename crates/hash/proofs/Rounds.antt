@@ -16,7 +16,8 @@ rounds-add p t m (suc n) s =
 
 -- one round more, and the first
 module _ (p : List ℕ) (t : ℕ) (s : Working) where
-  pub rounds-next : (n : ℕ) (r q : Working) → r ≡ preparedRounds p t n s → q ≡ preparedRound r (getD p (t + n) 0) → q ≡ preparedRounds p t (suc n) s
+  pub rounds-next :
+      (n : ℕ) (r q : Working) → r ≡ preparedRounds p t n s → q ≡ preparedRound r (getD p (t + n) 0) → q ≡ preparedRounds p t (suc n) s
   unfolding preparedRounds
   rounds-next n r q e f = f ∙ ap (λ (x : Working). preparedRound x (getD p (t + n) 0)) e
 

@@ -10,13 +10,13 @@ use Rattle.hash.specs.Constants.{K}
 use Rattle.hash.specs.Block.{initialWorking, round, addWorking}
 use Rattle.hash.specs.declared.block.Working.{Working}
 
--- word t of the prepared words: the constant and the schedule's word of round t, as one sum
-abbrev pub preparedWord : List ℕ → ℕ → ℕ
-preparedWord w t = getD K t 0 ⊞ getD w t 0
+-- the word that round t takes, with the constants k and the schedule w: constant and word as one sum
+abbrev pub preparedWord : List ℕ → List ℕ → ℕ → ℕ
+preparedWord k w t = getD k t 0 ⊞ getD w t 0
 
 -- the 64 prepared words of the schedule w
 unfoldable pub prepared : List ℕ → List ℕ
-prepared w = tabulate (preparedWord w) 64
+prepared w = tabulate (preparedWord K w) 64
 
 -- one round with the prepared word x: the standard's, where x is the word and nothing is left for the constant
 unfoldable pub preparedRound : Working → ℕ → Working

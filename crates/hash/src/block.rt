@@ -12,7 +12,7 @@ ghost use lib.ListN.{length, getD, take};
 ghost use Rattle.hash.specs.Word.{_⊞_};
 ghost use Rattle.hash.specs.Constants.{K};
 ghost use Rattle.hash.specs.Block.{blockWord, nextWord, schedule, initialWorking, T₁, T₂, round, addWorking, compress};
-ghost use Rattle.hash.specs.Prepared.{prepared, preparedRound, preparedRounds};
+ghost use Rattle.hash.specs.Prepared.{preparedWord, prepared, preparedRound, preparedRounds};
 
 // The working variables.
 pub struct Working {
@@ -165,7 +165,15 @@ fn scheduled(block: &[u8]) -> [u32; 64]
     w
 }
 
-// The words that the rounds take: the schedule's, each with its round's constant in it.
+// The word that round t takes: its constant and the schedule's word as one sum.
+fn prepared_word(k: &[u32; 64], w: &[u32; 64], t: usize) -> u32
+    requires { ⌜ t < 64 ⌝ }
+    ensures { λ r. ⌜ r ≡ preparedWord (now (k .entry)) (now (w .entry)) t ⌝ }
+{
+    wrapping_add_u32(k[t], w[t])
+}
+
+// The words of all rounds, made in a loop of their own, which compiles to sums of four at once.
 fn prepared(k: &[u32; 64], w: &[u32; 64]) -> [u32; 64]
     requires { ⌜ now k ≡ K ⌝ }
     ensures { λ r. ⌜ r ≡ prepared (now (w .entry)) ⌝ }
@@ -173,7 +181,7 @@ fn prepared(k: &[u32; 64], w: &[u32; 64]) -> [u32; 64]
     let mut p = [0u32; 64];
     let mut t: usize = 0;
     while t < 64 {
-        p[t] = wrapping_add_u32(k[t], w[t]);
+        p[t] = prepared_word(k, w, t);
         t = t + 1;
     }
     p

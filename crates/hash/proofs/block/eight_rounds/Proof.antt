@@ -5,15 +5,6 @@ use borrow.Author.Needs.{needs}
 use Rattle.hash.proofs.block.eight_rounds.Statement.{statement}
 use Rattle.hash.proofs.block.eight_rounds.Tie as tie
 
--- `hash::block::eight_rounds` meets its contract.
--- Assumes nothing.
-
--- `hash::block::eight_rounds` meets its contract.
--- Assumes nothing.
-
--- `hash::block::eight_rounds` meets its contract.
--- Assumes nothing.
-
 round-at-requires : tie.Need-round-at-requires
 round-at-requires c κs = search needs
 
@@ -61,11 +52,20 @@ round-at-requires-8 c κs = search needs
 
 returns : tie.Need-returns
 returns c =
-    let a = c .before .before .before .before .before .before .before .before .args in
-    let p = a .p .now in
-    let t = a .t in
-    let s = a .s in
-    rounds-next p t s 7 _ _ (rounds-next p t s 6 _ _ (rounds-next p t s 5 _ _ (rounds-next p t s 4 _ _ (rounds-next p t s 3 _ _ (rounds-next p t s 2 _ _ (rounds-next p t s 1 _ _ (rounds-one p t s _ (c .before .before .before .before .before .before .before .round-at .ensures)) (c .before .before .before .before .before .before .round-at2 .ensures)) (c .before .before .before .before .before .round-at3 .ensures)) (c .before .before .before .before .round-at4 .ensures)) (c .before .before .before .round-at5 .ensures)) (c .before .before .round-at6 .ensures)) (c .before .round-at7 .ensures)) (c .round-at8 .ensures)
+    let five = c .before .before .before in
+    let two = five .before .before .before in
+    let given = two .before .before .args in
+    let p = given .p .now in
+    let t = given .t in
+    let s = given .s in
+    let s1 = rounds-one p t s _ (two .before .round-at .ensures) in
+    let s2 = rounds-next p t s 1 _ _ s1 (two .round-at2 .ensures) in
+    let s3 = rounds-next p t s 2 _ _ s2 (five .before .before .round-at3 .ensures) in
+    let s4 = rounds-next p t s 3 _ _ s3 (five .before .round-at4 .ensures) in
+    let s5 = rounds-next p t s 4 _ _ s4 (five .round-at5 .ensures) in
+    let s6 = rounds-next p t s 5 _ _ s5 (c .before .before .round-at6 .ensures) in
+    let s7 = rounds-next p t s 6 _ _ s6 (c .before .round-at7 .ensures) in
+    rounds-next p t s 7 _ _ s7 (c .round-at8 .ensures)
 
 pub eight-rounds-spec : {M : Type 1} → statement M
 eight-rounds-spec =

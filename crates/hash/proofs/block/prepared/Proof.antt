@@ -6,12 +6,13 @@ use native.Mathlib.Omega.{arith}
 use lib.ListN.{replicate}
 use borrow.Author.Needs.{needs}
 use Rattle.laws.proofs.Tabulate.{Filled, filled-none, filled-more, filled-all}
+use Rattle.hash.specs.Constants.{K}
 use Rattle.hash.specs.Prepared.{preparedWord, prepared}
 use Rattle.hash.proofs.block.prepared.Statement.{statement}
 use Rattle.hash.proofs.block.prepared.Tie as tie
 
 abbrev Inv-loop : tie.InvT-loop
-Inv-loop k w p₀ t₀ p t = Filled (preparedWord w) 64 p t
+Inv-loop k w p₀ t₀ p t = Filled (preparedWord K w) 64 p t
 
 abbrev μ-loop : tie.MeasureT-loop
 μ-loop k w p₀ t₀ p t = 64 - t
@@ -19,20 +20,8 @@ abbrev μ-loop : tie.MeasureT-loop
 loop-holds : tie.Need-loop-holds Inv-loop μ-loop
 loop-holds c = filled-none _ 64 (replicate 64 0) refl
 
-mul-wrapping-add-u32 : tie.Need-mul-wrapping-add-u32 Inv-loop μ-loop
-mul-wrapping-add-u32 c = search needs
-
-element-copy-out-wrapping-add-u32 : tie.Need-element-copy-out-wrapping-add-u32 Inv-loop μ-loop
-element-copy-out-wrapping-add-u32 c = search needs
-
-mul-wrapping-add-u32-2 : tie.Need-mul-wrapping-add-u32-2 Inv-loop μ-loop
-mul-wrapping-add-u32-2 c = search needs
-
-element-copy-out-wrapping-add-u32-2 : tie.Need-element-copy-out-wrapping-add-u32-2 Inv-loop μ-loop
-element-copy-out-wrapping-add-u32-2 c = search needs
-
-wrapping-add-u32-requires : tie.Need-wrapping-add-u32-requires Inv-loop μ-loop
-wrapping-add-u32-requires c κs = search needs
+prepared-word-requires : tie.Need-prepared-word-requires Inv-loop μ-loop
+prepared-word-requires c κs = search needs
 
 mul-p : tie.Need-mul-p Inv-loop μ-loop
 mul-p c = search needs
@@ -48,8 +37,8 @@ loop-less c = search needs
 
 loop-again : tie.Need-loop-again Inv-loop μ-loop
 loop-again c =
-    let turn = c .before .before .before .before in
-    filled-more _ 64 _ _ _ (turn .loop .inv) (omega arith) (c .wrapping-add-u32 .ensures ∙ rw (turn .before .pre))
+    let turn = c .before .before in
+    filled-more _ 64 _ _ _ (turn .loop .inv) (omega arith) (c .prepared-word .ensures ∙ rw (turn .before .pre))
 
 returns : tie.Need-returns Inv-loop μ-loop
 unfolding prepared
@@ -62,11 +51,7 @@ prepared-spec =
     Inv-loop
     μ-loop
     loop-holds
-    mul-wrapping-add-u32
-    element-copy-out-wrapping-add-u32
-    mul-wrapping-add-u32-2
-    element-copy-out-wrapping-add-u32-2
-    wrapping-add-u32-requires
+    prepared-word-requires
     mul-p
     array-write-p
     add-t
