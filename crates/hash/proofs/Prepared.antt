@@ -42,7 +42,7 @@ pub takes-sum :
 takes-sum s x r e = (e, λ k w f. e ∙ ap (preparedRound s) f ∙ prepared-round s k w)
 
 pub prepared-rounds : (w : List ℕ) (t n : ℕ) (s : Working) → t + n ≤ 64 → preparedRounds (prepared w) t n s ≡ rounds w t n s
-unfolding prepared preparedRounds rounds
+unfolding prepared preparedRound preparedRounds rounds
 prepared-rounds w t zero s h = refl
 prepared-rounds w t (suc n) s h =
     ap₂ preparedRound (prepared-rounds w t n s (omega arith)) (getD-tabulate (preparedWord K w) 0 64 (t + n) (omega arith))

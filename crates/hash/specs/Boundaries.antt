@@ -50,11 +50,15 @@ LengthsRow =
     map (λ (n : ℕ). drop (length (padding n) - 8) (padding n)) (0x0001_0203_0405_0607 ∷ (2 ^ 61 - 1) ∷ [])
     ≡ (0 ∷ 8 ∷ 16 ∷ 24 ∷ 32 ∷ 40 ∷ 48 ∷ 56 ∷ []) ∷ (255 ∷ 255 ∷ 255 ∷ 255 ∷ 255 ∷ 255 ∷ 255 ∷ 248 ∷ []) ∷ []
 
--- prepared words: one sum past 2 ^ 32, one with the word 0, one that is 2 ^ 32, one that is 2 ^ 32 - 1; the last; none behind it
+-- the first four of 64 and the last
+abbrev pub ends : List ℕ → List ℕ
+ends p = take 4 p ++ drop 63 p
+
+-- the ends of the prepared words: sums past 2 ^ 32, with the word 0, at 2 ^ 32, one below it, with no word left
 abbrev pub PreparedWordsRow : Type 0
 PreparedWordsRow =
-    map (λ (t : ℕ). getD (prepared (0xffff_ffff ∷ 0 ∷ 0x4a3f_0431 ∷ 0x164a_245a ∷ [])) t 0) (0 ∷ 1 ∷ 2 ∷ 3 ∷ 63 ∷ 64 ∷ [])
-    ≡ 0x428a_2f97 ∷ 0x7137_4491 ∷ 0 ∷ 0xffff_ffff ∷ 0xc671_78f2 ∷ 0 ∷ []
+    ends (prepared (0xffff_ffff ∷ 0 ∷ 0x4a3f_0431 ∷ 0x164a_245a ∷ []))
+    ≡ 0x428a_2f97 ∷ 0x7137_4491 ∷ 0 ∷ 0xffff_ffff ∷ 0xc671_78f2 ∷ []
 
 -- the first round of 'abc' with its prepared word: the working variables of NIST's worked example
 abbrev pub FirstRoundRow : Type 0

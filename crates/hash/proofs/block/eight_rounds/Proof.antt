@@ -1,5 +1,6 @@
 -- `hash::block::eight_rounds` meets its contract.
 -- Assumes nothing.
+use native.Mathlib.Omega.{arith}
 use Rattle.hash.proofs.Rounds.{rounds-one, rounds-next}
 use borrow.Author.Needs.{needs}
 use Rattle.hash.proofs.block.eight_rounds.Statement.{statement}
@@ -59,13 +60,13 @@ returns c =
     let t = given .t in
     let s = given .s in
     let s1 = rounds-one p t s _ (two .before .round-at .ensures) in
-    let s2 = rounds-next p t s 1 _ _ s1 (two .round-at2 .ensures) in
-    let s3 = rounds-next p t s 2 _ _ s2 (five .before .before .round-at3 .ensures) in
-    let s4 = rounds-next p t s 3 _ _ s3 (five .before .round-at4 .ensures) in
-    let s5 = rounds-next p t s 4 _ _ s4 (five .round-at5 .ensures) in
-    let s6 = rounds-next p t s 5 _ _ s5 (c .before .before .round-at6 .ensures) in
-    let s7 = rounds-next p t s 6 _ _ s6 (c .before .round-at7 .ensures) in
-    rounds-next p t s 7 _ _ s7 (c .round-at8 .ensures)
+    let s2 = rounds-next p t s 1 _ _ _ (omega arith) s1 (two .round-at2 .ensures) in
+    let s3 = rounds-next p t s 2 _ _ _ (omega arith) s2 (five .before .before .round-at3 .ensures) in
+    let s4 = rounds-next p t s 3 _ _ _ (omega arith) s3 (five .before .round-at4 .ensures) in
+    let s5 = rounds-next p t s 4 _ _ _ (omega arith) s4 (five .round-at5 .ensures) in
+    let s6 = rounds-next p t s 5 _ _ _ (omega arith) s5 (c .before .before .round-at6 .ensures) in
+    let s7 = rounds-next p t s 6 _ _ _ (omega arith) s6 (c .before .round-at7 .ensures) in
+    rounds-next p t s 7 _ _ _ (omega arith) s7 (c .round-at8 .ensures)
 
 pub eight-rounds-spec : {M : Type 1} → statement M
 eight-rounds-spec =
