@@ -33,21 +33,52 @@ def rotr(x, n):
     return (x >> n | x << (32 - n)) & MASK
 
 
-def compress(chain, block):
-    """6.2.2."""
+def sigma0(x):
+    """Lower case, of the message schedule (4.1.2); so is sigma1."""
+    return rotr(x, 7) ^ rotr(x, 18) ^ x >> 3
+
+
+def sigma1(x):
+    return rotr(x, 17) ^ rotr(x, 19) ^ x >> 10
+
+
+def schedule(block):
+    """The 64 words of a block's message schedule (6.2.2, 1)."""
     w = [int.from_bytes(block[i : i + 4], "big") for i in range(0, 64, 4)]
     for t in range(16, 64):
-        s0 = rotr(w[t - 15], 7) ^ rotr(w[t - 15], 18) ^ w[t - 15] >> 3
-        s1 = rotr(w[t - 2], 17) ^ rotr(w[t - 2], 19) ^ w[t - 2] >> 10
-        w.append((s1 + w[t - 7] + s0 + w[t - 16]) & MASK)
+        w.append((sigma1(w[t - 2]) + w[t - 7] + sigma0(w[t - 15]) + w[t - 16]) & MASK)
+    return w
+
+
+def prepared(block):
+    """The words of the schedule, each with its round's constant in it (02, ix)."""
+    return [(k + w) & MASK for k, w in zip(K, schedule(block))]
+
+
+def rounds(chain, taken):
+    """The working variables after a round for each constant and word taken (6.2.2, 3)."""
     a, b, c, d, e, f, g, h = chain
-    for t in range(64):
+    for k, w in taken:
         ch = e & f ^ ~e & g
         maj = a & b ^ a & c ^ b & c
-        t1 = h + (rotr(e, 6) ^ rotr(e, 11) ^ rotr(e, 25)) + ch + K[t] + w[t]
+        t1 = h + (rotr(e, 6) ^ rotr(e, 11) ^ rotr(e, 25)) + ch + k + w
         t2 = (rotr(a, 2) ^ rotr(a, 13) ^ rotr(a, 22)) + maj
         a, b, c, d, e, f, g, h = (t1 + t2) & MASK, a, b, c, (d + t1) & MASK, e, f, g
-    return [(x + y) & MASK for x, y in zip(chain, (a, b, c, d, e, f, g, h))]
+    return a, b, c, d, e, f, g, h
+
+
+def added(chain, working):
+    return [(x + y) & MASK for x, y in zip(chain, working)]
+
+
+def compress(chain, block):
+    """6.2.2. Each round adds its constant and its word, one after the other."""
+    return added(chain, rounds(chain, zip(K, schedule(block))))
+
+
+def compress_prepared(chain, block):
+    """The same by prepared words: a round has no constant left to add."""
+    return added(chain, rounds(chain, ((0, x) for x in prepared(block))))
 
 
 def finish(chain, unhashed, length):
