@@ -150,13 +150,14 @@ def hard_blocks(noise):
 
 
 def hard_chains(noise):
-    alike = [[word] * 8 for word in (0, 1, 2**31 - 1, 2**31, MASK)]
-    for chain in (*alike, INITIAL, *map(chain_of, single_bits(32))):
+    equal = [[word] * 8 for word in (0, 1, 2**31 - 1, 2**31, MASK)]
+    for chain in (*equal, INITIAL, *map(chain_of, single_bits(32))):
         for block in (ZEROS, b"\xff" * BLOCK, noise.take(BLOCK)):
             yield compression(chain, block, noise)
 
 
 def hard_lengths(noise):
+    """The longest first, so that the self-test comes to them soon."""
     near = [whole + more for whole in range(BLOCK, LONGEST + 1, BLOCK) for more in range(-10, 3)]
     for length in (TWO_BYTES - 1, TWO_BYTES, *range(131), *near):
         yield Message(noise.take(length))
@@ -241,7 +242,8 @@ def against(program, seconds, seed):
     except Failure as why:
         print(f"FAIL  {why}")
         return 1
-    print(f"pass  {tally[Message]} messages and {tally[Event]} events: by the library, sha256.py and hashlib the same")
+    came = f"{tally[Message]} messages and {tally[Event]} events"
+    print(f"pass  {came}: by the library and sha256.py the same, the messages by hashlib too")
     return 0
 
 
@@ -288,9 +290,9 @@ def named(title, make, what):
 def told(versions, cases):
     """Whether all are told, with how many are and which are not."""
     places = [place_told(version, cases) for version in versions]
-    last = max((place for place in places if place), default=0)
+    last = max((place for place in places if place), default="none")
     untold = "".join(f"; not one that {v.text}" for v, place in zip(versions, places) if place is None)
-    return not untold, f"{len(places) - places.count(None)} of {len(places)} told, by case {last} at the latest{untold}"
+    return not untold, f"{len(places) - places.count(None)} of {len(places)} told, the last by case {last}{untold}"
 
 
 def findings():

@@ -65,9 +65,9 @@ def right_word(w, t):
     return K[t] + w[t]
 
 
-def prepared_by(word, places=range(64), other=right_word):
-    """Prepared words, those of these rounds by one rule and the others by another."""
-    rules = [word if t in places else other for t in range(64)]
+def prepared_by(word, places=range(64)):
+    """Prepared words: those of these rounds by a rule of their own, the others right."""
+    rules = [word if t in places else right_word for t in range(64)]
     return lambda w: [rule(w, t) & MASK for t, rule in enumerate(rules)]
 
 
@@ -182,7 +182,6 @@ def at_one_sum():
 
 
 # ---- which words are prepared, and when
-
 
 RESTS = {
     "words without constants": lambda w, t: w[t],
