@@ -7,7 +7,9 @@ use Rattle.hash.specs.Prepared.{prepared, preparedRound}
 use Rattle.hash.specs.Hasher.{zeroFilled, absorbFrom, absorb, finish}
 use Rattle.hash.specs.ShaD.{zeroBlock, D, maxMessage, maxDMessage, maxPoolLength, withZeroBlock, poolDigest}
 use Rattle.hash.specs.Answers.{lengthNumber}
-use Rattle.hash.specs.Boundaries.{messages, digests, passed, PaddingsRow, LengthsRow, PreparedWordsRow, FirstRoundRow, MessageLimitRow, ShaDLimitRow, PoolLimitRow, StandardRow, EdgesRow, ShaDRow, FinishesRow, PoolDigestsRow, AbsorbsRow, LongestRow, Boundaries}
+use Rattle.hash.specs.Boundaries.{messages, digests, passed, PaddingsRow, LengthsRow, PreparedWordsRow, FirstRoundRow}
+use Rattle.hash.specs.Boundaries.{MessageLimitRow, ShaDLimitRow, PoolLimitRow, StandardRow, EdgesRow, ShaDRow, FinishesRow}
+use Rattle.hash.specs.Boundaries.{PoolDigestsRow, AbsorbsRow, LongestRow, Boundaries}
 use Rattle.hash.proofs.Computing.{compressing, digesting}
 
 paddings : PaddingsRow
