@@ -8,7 +8,7 @@
    and its D. An event comes to a state that is fresh but for the pool of this number, which has CHAIN, of 32 bytes,
    TAIL, of 64, and LENGTH; back come the three as they are then. From a length of 64 on any chain may stand in a pool.
    So where the event completes a block, it shows the compression of that block from any hash value. A refused call ends
-   the program, and so does one that changes more than it may. */
+   the program, and so does one that changes more than it may, and a line of another form. */
 #define _POSIX_C_SOURCE 200809L
 #include "fortuna.h"
 #include "lent.h"
@@ -19,8 +19,6 @@
 enum { DIGEST = 32, CHAIN = 32, TAIL = 64, POOLS = 32, ALIGNED = 8 };
 
 /* ---- buffers at each distance from an aligned place, in turn */
-
-static size_t turn;
 
 static uint8_t *lend_at(size_t distance, size_t length)
 {
@@ -35,13 +33,52 @@ static void give_back_at(size_t distance, uint8_t *buffer, size_t length)
     give_back(buffer - distance, distance + length);
 }
 
+/* ---- parts of a line */
+
+/* None is left: an empty part, for a message of no bytes. */
+static char *last_part(void)
+{
+    static char none[] = "";
+    char *found = strtok(NULL, " \n");
+    if (found && strtok(NULL, " \n"))
+        stop("a line that is too long");
+    return found ? found : none;
+}
+
+static const char *part(void)
+{
+    const char *found = strtok(NULL, " \n");
+    if (!found)
+        stop("a line that is too short");
+    return found;
+}
+
+/* The bytes of digits, of which there must be so many. */
+static void decode_all(const char *digits, uint8_t *bytes, size_t length)
+{
+    if (strlen(digits) != 2 * length)
+        stop("a part of a line that has another length");
+    decode(digits, 2 * length, bytes);
+}
+
+/* A number that takes so many bytes, at most eight. */
+static uint64_t number_of(const char *digits, size_t length)
+{
+    uint8_t bytes[8];
+    uint64_t number = 0;
+    decode_all(digits, bytes, length);
+    for (size_t i = 0; i < length; i++)
+        number = number << 8 | bytes[i];
+    return number;
+}
+
 /* ---- messages */
 
 typedef uint32_t hash(const uint8_t *data, size_t length, uint8_t digest[DIGEST]);
 
-static void print_digest(hash *of, const uint8_t *message, size_t length)
+static void print_digest(hash *of, size_t turn, const uint8_t *message, size_t length)
 {
-    size_t distance = turn++ % ALIGNED, other = turn / ALIGNED % ALIGNED;
+    size_t distance = turn % ALIGNED, other = turn / ALIGNED % ALIGNED;
     uint8_t *data = lend_at(distance, length), *digest = lend_at(other, DIGEST);
     memcpy(data, message, length);
     if (of(data, length, digest) != FORTUNA_DONE)
@@ -53,33 +90,28 @@ static void print_digest(hash *of, const uint8_t *message, size_t length)
     give_back_at(other, digest, DIGEST);
 }
 
-static void answer_message(char *digits)
+static void answer_message(size_t turn)
 {
+    char *digits = last_part();
     size_t length = strlen(digits) / 2;
-    decode(digits, 2 * length, (uint8_t *)digits);
-    print_digest(fortuna_sha256, (const uint8_t *)digits, length);
+    decode_all(digits, (uint8_t *)digits, length);
+    print_digest(fortuna_sha256, turn, (const uint8_t *)digits, length);
     putchar(' ');
-    print_digest(fortuna_sha_d256, (const uint8_t *)digits, length);
+    print_digest(fortuna_sha_d256, turn, (const uint8_t *)digits, length);
     putchar('\n');
 }
 
 /* ---- events */
 
-static void decode_all(const char *digits, uint8_t *bytes, size_t length)
-{
-    if (strlen(digits) != 2 * length)
-        stop("a part of a line that has another length");
-    decode(digits, 2 * length, bytes);
-}
-
-static fortuna_pool pool_of(const char *chain, const char *tail, const char *length)
+static fortuna_pool pool_part(void)
 {
     uint8_t bytes[CHAIN];
-    fortuna_pool pool = {.length = strtoull(length, NULL, 16)};
-    decode_all(chain, bytes, CHAIN);
+    fortuna_pool pool = {0};
+    decode_all(part(), bytes, CHAIN);
     for (size_t i = 0; i < CHAIN; i++)
         pool.chain[i / 4] = pool.chain[i / 4] << 8 | bytes[i];
-    decode_all(tail, pool.tail, TAIL);
+    decode_all(part(), pool.tail, TAIL);
+    pool.length = number_of(part(), sizeof pool.length);
     return pool;
 }
 
@@ -109,53 +141,39 @@ static fortuna_pool after_event(
     return after;
 }
 
-static void answer_event(uint32_t number, const fortuna_pool *pool, uint32_t source, const char *digits)
+static void answer_event(size_t turn)
 {
-    size_t length = strlen(digits) / 2, distance = turn++ % ALIGNED;
-    uint8_t *data = lend_at(distance, length);
+    uint32_t number = (uint32_t)number_of(part(), 1);
     if (number >= POOLS)
         stop("a line with no pool");
-    decode_all(digits, data, length);
-    fortuna_pool after = after_event(number, pool, source, data, length);
+    fortuna_pool pool = pool_part();
+    uint32_t source = (uint32_t)number_of(part(), 2);
+    char *digits = last_part();
+    size_t length = strlen(digits) / 2, distance = turn % ALIGNED;
+    uint8_t *data = lend_at(distance, length);
+    decode_all(digits, (uint8_t *)digits, length);
+    memcpy(data, digits, length);
+    fortuna_pool after = after_event(number, &pool, source, data, length);
+    if (memcmp(data, digits, length) != 0)
+        stop("an event changed its data");
     print_pool(&after);
     give_back_at(distance, data, length);
 }
 
 /* ---- lines */
 
-static char *part(void)
-{
-    char *found = strtok(NULL, " \n");
-    if (!found)
-        stop("a line that is too short");
-    return found;
-}
-
-static uint32_t part_number(void) { return (uint32_t)strtoul(part(), NULL, 16); }
-
-static void answer_event_line(void)
-{
-    uint32_t number = part_number();
-    const char *chain = part(), *tail = part(), *length = part();
-    fortuna_pool pool = pool_of(chain, tail, length);
-    uint32_t source = part_number();
-    answer_event(number, &pool, source, part());
-}
-
 int main(void)
 {
-    char *line = NULL, none[] = "";
+    char *line = NULL;
     size_t room = 0;
-    while (getline(&line, &room, stdin) > 0) {
+    for (size_t turn = 0; getline(&line, &room, stdin) > 0; turn++) {
         const char *kind = strtok(line, " \n");
-        if (kind && strcmp(kind, "message") == 0) {
-            char *message = strtok(NULL, " \n");
-            answer_message(message ? message : none);
-        } else if (kind && strcmp(kind, "event") == 0) {
-            answer_event_line();
-        } else {
+        if (kind && strcmp(kind, "message") == 0)
+            answer_message(turn);
+        else if (kind && strcmp(kind, "event") == 0)
+            answer_event(turn);
+        else
             stop("a line with neither a message nor an event");
-        }
     }
     free(line);
     return 0;

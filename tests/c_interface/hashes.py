@@ -82,7 +82,7 @@ class Standard:
     def sha256(message):
         digest = finish(INITIAL, message, len(message))
         if digest != hashlib.sha256(message).digest():
-            raise Failure(f"hashlib and sha256.py differ on {message.hex()}")
+            raise Failure(f"hashlib and sha256.py differ on {shortened(message.hex().encode())}")
         return digest
 
     @staticmethod
@@ -315,9 +315,13 @@ def findings():
 
 def self_test():
     failed = False
-    for holds, what in findings():
-        failed |= not holds
-        print(f"{'pass' if holds else 'FAIL'}  {what}")
+    try:
+        for holds, what in findings():
+            failed |= not holds
+            print(f"{'pass' if holds else 'FAIL'}  {what}")
+    except Failure as why:
+        print(f"FAIL  {why}")
+        return 1
     return 1 if failed else 0
 
 

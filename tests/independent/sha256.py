@@ -34,11 +34,12 @@ def rotr(x, n):
 
 
 def sigma0(x):
-    """Lower case, of the message schedule (4.1.2); so is sigma1."""
+    """σ0 of 4.1.2."""
     return rotr(x, 7) ^ rotr(x, 18) ^ x >> 3
 
 
 def sigma1(x):
+    """σ1 of 4.1.2."""
     return rotr(x, 17) ^ rotr(x, 19) ^ x >> 10
 
 

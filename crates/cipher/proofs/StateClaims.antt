@@ -8,7 +8,7 @@ use Rattle.laws.proofs.Tabulate.{getD-tabulate}
 use Rattle.cipher.specs.Field.{_⊕_, product}
 use Rattle.cipher.specs.Aes.{at, shiftRows, rowBelow, mixedByte, mixColumns}
 use Rattle.cipher.specs.Claims.{cell, ShiftRowsEquation, MixColumnsEquations}
-use Rattle.laws.proofs.Xor.{xor-turn}
+use Rattle.laws.proofs.Bits.{xor-turn}
 
 pub shift-rows-equation : ShiftRowsEquation
 unfolding shiftRows

@@ -7,7 +7,7 @@ use Rattle.hash.specs.Prepared.{prepared, preparedRound}
 use Rattle.hash.specs.Hasher.{zeroFilled, absorbFrom, absorb, finish}
 use Rattle.hash.specs.ShaD.{zeroBlock, D, maxMessage, maxDMessage, maxPoolLength, withZeroBlock, poolDigest}
 use Rattle.hash.specs.Answers.{lengthNumber}
-use Rattle.hash.specs.Boundaries.{messages, digests, passed, PaddingsRow, LengthsRow, PreparedWordsRow, FirstRoundRow}
+use Rattle.hash.specs.Boundaries.{messages, digests, passed, PaddingsRow, LengthsRow, edgeWords, PreparedWordsRow, FirstRoundRow}
 use Rattle.hash.specs.Boundaries.{MessageLimitRow, ShaDLimitRow, PoolLimitRow, StandardRow, EdgesRow, ShaDRow, FinishesRow}
 use Rattle.hash.specs.Boundaries.{PoolDigestsRow, AbsorbsRow, LongestRow, Boundaries}
 use Rattle.hash.proofs.Computing.{compressing, digesting}
@@ -21,7 +21,7 @@ unfolding tabulate zeroBytes padding
 lengths = refl
 
 prepared-words : PreparedWordsRow
-unfolding compressing prepared
+unfolding compressing prepared edgeWords
 prepared-words = refl
 
 first-round : FirstRoundRow

@@ -1,5 +1,5 @@
 -- Rotations of words. A rotation by n changes the places of a word's n low bits and of the bits above them. So two rotations are
--- one, and the rotation of a sum is the sum of the rotations: Σ and σ can be taken from the inside out.
+-- one, and an exclusive or may be rotated before it is taken or after: Σ and σ can be taken from the inside out.
 -- Assumes nothing.
 use mathlib.Core.Path.{_≡_, sym, ap, ap₂, subst, _∙_}
 use Prim.Native.Nat.{ℕ, _+_, _-_, _*_, _/_, _%_, _^_, _<_}
@@ -8,12 +8,12 @@ use native.Mathlib.Omega.{arith}
 use lib.Arith.{digits-lt, digits-mod}
 use lib.Bits.{bitOr, bitXor, xor-shr, xor-mod, xor-lt, xor-block, or-shifted-r}
 use lib.Pow.{pow-pos, pow-add, shl-lt, shr-lt, shr-shr, split, high, mod-pow-add}
-use Rattle.laws.proofs.Xor.{xor-assoc}
+use Rattle.laws.proofs.Bits.{xor-assoc}
 use Rattle.hash.specs.Word.{ROTR}
 
 -- n low bits and m above them make a word
 module _ (n m : ℕ) (whole : n + m ≡ 32) where
-  -- a product of their powers is a word's
+  -- both powers of 2 make 2 ^ 32
   word : 2 ^ n * 2 ^ m ≡ 2 ^ 32
   word = sym (pow-add 2 n m) ∙ ap (λ (k : ℕ). 2 ^ k) whole
 
@@ -35,14 +35,14 @@ module _ (n m : ℕ) (whole : n + m ≡ 32) where
   low-lt : (x : ℕ) → x % 2 ^ n < 2 ^ n
   low-lt x = mod-lt x (pow-pos n)
 
-  pub rotr-is : (x : ℕ) → x < 2 ^ 32 → ROTR n x ≡ x % 2 ^ n * 2 ^ m + x / 2 ^ n
+  rotr-is : (x : ℕ) → x < 2 ^ 32 → ROTR n x ≡ x % 2 ^ n * 2 ^ m + x / 2 ^ n
   rotr-is x h = ap (ROTR n) (sym (split x n)) ∙ turned (x / 2 ^ n) (x % 2 ^ n) (low-lt x) (high-lt x h)
 
-  pub rotr-lt : (x : ℕ) → x < 2 ^ 32 → ROTR n x < 2 ^ 32
+  rotr-lt : (x : ℕ) → x < 2 ^ 32 → ROTR n x < 2 ^ 32
   rotr-lt x h = subst (λ (y : ℕ). ROTR n x < y) word (subst (λ (y : ℕ). y < 2 ^ n * 2 ^ m) (sym (rotr-is x h)) (digits-lt (low-lt x) (high-lt x h)))
 
-  -- of a sum
-  pub rotr-xor : (x y : ℕ) → x < 2 ^ 32 → y < 2 ^ 32 → ROTR n (bitXor x y) ≡ bitXor (ROTR n x) (ROTR n y)
+  -- of an exclusive or
+  rotr-xor : (x y : ℕ) → x < 2 ^ 32 → y < 2 ^ 32 → ROTR n (bitXor x y) ≡ bitXor (ROTR n x) (ROTR n y)
   rotr-xor x y hx hy =
       rotr-is (bitXor x y) (xor-lt 32 x y hx hy)
       ∙ ap₂ (λ (l h : ℕ). l * 2 ^ m + h) (xor-mod x y n) (xor-shr x y n)
@@ -58,7 +58,7 @@ regroup p z y c a =
 
 -- three parts make a word, and two rotations are one
 module _ (a b c : ℕ) (whole : a + b + c ≡ 32) (x : ℕ) (h : x < 2 ^ 32) where
-  pub rotr-rotr : ROTR a (ROTR b x) ≡ ROTR (a + b) x
+  rotr-rotr : ROTR a (ROTR b x) ≡ ROTR (a + b) x
   rotr-rotr =
       let p : ℕ = x % 2 ^ b in
       let q : ℕ = x / 2 ^ b in
@@ -67,14 +67,14 @@ module _ (a b c : ℕ) (whole : a + b + c ≡ 32) (x : ℕ) (h : x < 2 ^ 32) whe
       let e : b + (c + a) ≡ 32 = omega (arith, whole) in
       let f : a + (b + c) ≡ 32 = omega (arith, whole) in
       let middle : z < 2 ^ c = shr-lt c a (high-lt b (c + a) e x h) in
-      let top : p * 2 ^ c + z < 2 ^ (b + c) = subst (λ (k : ℕ). p * 2 ^ c + z < k) (sym (pow-add 2 b c)) (digits-lt (mod-lt x (pow-pos b)) middle) in
+      let top : p * 2 ^ c + z < 2 ^ (b + c) = subst (λ (k : ℕ). p * 2 ^ c + z < k) (sym (pow-add 2 b c)) (digits-lt (low-lt b (c + a) e x) middle) in
       ap (ROTR a) (rotr-is b (c + a) e x h ∙ ap (λ (k : ℕ). p * 2 ^ (c + a) + k) (sym (split q a)) ∙ regroup p z y c a)
-      ∙ turned a (b + c) f (p * 2 ^ c + z) y (mod-lt q (pow-pos a)) top
+      ∙ turned a (b + c) f (p * 2 ^ c + z) y (low-lt a (b + c) f q) top
       ∙ regroup y p z b c
       ∙ ap₂ (λ (l k : ℕ). l * 2 ^ c + k) (sym (mod-pow-add x a b)) (shr-shr x b a ∙ ap (λ (k : ℕ). x / 2 ^ k) (add-comm b a))
       ∙ sym (rotr-is (a + b) c whole x h)
 
-  -- the sum of a rotation by a and of one by b more
+  -- one rotation by a and one by b more
   pub nested : ROTR a (bitXor x (ROTR b x)) ≡ bitXor (ROTR a x) (ROTR (a + b) x)
   nested =
       rotr-xor a (b + c) (omega (arith, whole)) x (ROTR b x) h (rotr-lt b (c + a) (omega (arith, whole)) x h) ∙ ap (bitXor (ROTR a x)) rotr-rotr

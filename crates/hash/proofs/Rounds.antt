@@ -1,4 +1,4 @@
--- Rounds with prepared words, in two parts.
+-- Rounds with prepared words, in two parts. A round is opened too, so that its name and what it stands for prove alike.
 -- Assumes nothing.
 use mathlib.Core.Path.{_≡_, ap, ap₂, _∙_}
 use mathlib.Core.List.{List}

@@ -1,4 +1,4 @@
--- The message schedule, one word absorbFrom the other: what a store at place t adds.
+-- The message schedule, one word after the other: what a store at place t adds.
 -- Assumes nothing.
 use mathlib.Core.Path.{_≡_, _∙_}
 use mathlib.Core.List.{List, [], _∷_, _++_}
@@ -14,7 +14,7 @@ use Rattle.hash.specs.Block.{blockWord, nextWord, schedule}
 take-store : (w : List ℕ) (t v : ℕ) → t < length w → take (t + 1) (set w t v) ≡ take t w ++ (v ∷ [])
 take-store w t v h = rw (add-one, take-suc-set)
 
--- the next word is the same from a list that has more words absorbFrom the first t
+-- the next word is the same from a list that has more words after the first t
 pub next-take : (w : List ℕ) (t : ℕ) → 16 ≤ t → nextWord (take t w) t ≡ nextWord w t
 unfolding nextWord
 next-take w t h =
@@ -37,7 +37,8 @@ module _ (m w : List ℕ) (t : ℕ) (fits : t < length w) (so-far : take t w ≡
 abbrev pub Scheduled : List ℕ → List ℕ → ℕ → Type 0
 Scheduled m w t = (length w ≡ 64) × (take t w ≡ schedule m t)
 
-pub scheduled-more : (m w : List ℕ) (t n a : ℕ) → 16 ≤ t → t < 64 → n ≡ t + 1 → a ≡ nextWord w t → Scheduled m w t → Scheduled m (set w t a) n
+pub scheduled-more :
+    (m w : List ℕ) (t n a : ℕ) → 16 ≤ t → t < 64 → n ≡ t + 1 → a ≡ nextWord w t → Scheduled m w t → Scheduled m (set w t a) n
 scheduled-more m w t n a h l e v (long, so-far) =
     let fits : t < length w = omega (arith, long, l) in
     (length-set w t a ∙ long, rw (e, v) (more-next m w t fits so-far h))

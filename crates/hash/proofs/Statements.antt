@@ -1,4 +1,5 @@
--- The statements of specs/Statements.antt hold.
+-- The statements of specs/Statements.antt on padding and numbers hold. Those on prepared words are proved in Prepared.antt, those on
+-- the zero block and pools in ZeroBlock.antt and Laws.antt.
 -- Assumes nothing.
 use mathlib.Core.Path.{refl}
 use mathlib.Core.List.{List}

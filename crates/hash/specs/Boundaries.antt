@@ -2,9 +2,9 @@
 -- Assumes nothing.
 use mathlib.Core.Path.{_≡_}
 use mathlib.Core.List.{List, [], _∷_, _++_, map}
-use Prim.Native.Nat.{ℕ, _+_, _-_, _^_}
+use Prim.Native.Nat.{ℕ, _-_, _^_}
 use lib.ListN.{length, getD, take, drop, replicate}
-use Rattle.hash.specs.Constants.{H⁰}
+use Rattle.hash.specs.Constants.{K, H⁰}
 use Rattle.hash.specs.Padding.{padding}
 use Rattle.hash.specs.Block.{initialWorking}
 use Rattle.hash.specs.Prepared.{prepared, preparedRound}
@@ -50,20 +50,20 @@ LengthsRow =
     map (λ (n : ℕ). drop (length (padding n) - 8) (padding n)) (0x0001_0203_0405_0607 ∷ (2 ^ 61 - 1) ∷ [])
     ≡ (0 ∷ 8 ∷ 16 ∷ 24 ∷ 32 ∷ 40 ∷ 48 ∷ 56 ∷ []) ∷ (255 ∷ 255 ∷ 255 ∷ 255 ∷ 255 ∷ 255 ∷ 255 ∷ 248 ∷ []) ∷ []
 
--- the first four of 64 and the last
-abbrev pub ends : List ℕ → List ℕ
-ends p = take 4 p ++ drop 63 p
+-- a schedule whose sums with the first constants come past 2 ^ 32, to the constant itself, to 2 ^ 32 and to one below it
+unfoldable pub edgeWords : List ℕ
+edgeWords = 0xffff_ffff ∷ 0 ∷ 0x4a3f_0431 ∷ 0x164a_245a ∷ []
 
--- the ends of the prepared words: sums past 2 ^ 32, with the word 0, at 2 ^ 32, one below it, with no word left
+-- the first four prepared words, and all from the 64th on: the last constant alone, since the schedule has no word there
 abbrev pub PreparedWordsRow : Type 0
 PreparedWordsRow =
-    ends (prepared (0xffff_ffff ∷ 0 ∷ 0x4a3f_0431 ∷ 0x164a_245a ∷ []))
+    take 4 (prepared K edgeWords) ++ drop 63 (prepared K edgeWords)
     ≡ 0x428a_2f97 ∷ 0x7137_4491 ∷ 0 ∷ 0xffff_ffff ∷ 0xc671_78f2 ∷ []
 
--- the first round of 'abc' with its prepared word: the working variables of NIST's worked example
+-- the first round of 'abc' with its prepared word: the working variables at t = 0 in NIST's example of SHA-256 (SHA256.pdf)
 abbrev pub FirstRoundRow : Type 0
 FirstRoundRow =
-    preparedRound (initialWorking H⁰) (getD (prepared (0x6162_6380 ∷ [])) 0 0) ≡
+    preparedRound (initialWorking H⁰) (getD (prepared K (0x6162_6380 ∷ [])) 0 0) ≡
     record {
       a = 0x5d6a_ebcd;
       b = 0x6a09_e667;

@@ -5,4 +5,4 @@ pub mod Copy
 pub mod Refusals
 pub mod Lists
 pub mod Counts
-pub mod Xor
+pub mod Bits

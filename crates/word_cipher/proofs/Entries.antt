@@ -10,7 +10,7 @@ use Rattle.laws.proofs.Tables.{agree-at}
 use Rattle.laws.proofs.Tabulate.{getD-tabulate}
 use Rattle.cipher.specs.Field.{_⊕_, xtime, multiply, product, subByte}
 use Rattle.cipher.specs.Aes.{at, mixedByte, mixColumns}
-use Rattle.laws.proofs.Xor.{xor-turn}
+use Rattle.laws.proofs.Bits.{xor-turn}
 use Rattle.cipher.proofs.Bytes.{sub-byte-lt, twice-lt, thrice-lt}
 use Rattle.word_cipher.specs.Words.{word, byteOf, wordIn}
 use Rattle.word_cipher.specs.Tables.{spread, entry, tables}

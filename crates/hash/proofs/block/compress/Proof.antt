@@ -23,7 +23,10 @@ added-requires c κs = search needs
 
 returns : tie.Need-returns
 unfolding preparedCompress
-returns c = by-prepared _ _ _ cc
+returns c =
+    let words = c .before .before .before in
+    let start = words .before .before .before .before .before in
+    by-prepared _ (start .args .k .now) _ _ (start .pre .0) cc
 
 pub compress-spec : {M : Type 1} → statement M
 compress-spec =

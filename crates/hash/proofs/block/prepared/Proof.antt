@@ -1,18 +1,17 @@
 -- `hash::block::prepared` meets its contract.
 -- Assumes nothing.
-use mathlib.Core.Path.{refl, _∙_}
+use mathlib.Core.Path.{refl}
 use Prim.Native.Nat.{_-_}
 use native.Mathlib.Omega.{arith}
 use lib.ListN.{replicate}
 use borrow.Author.Needs.{needs}
 use Rattle.laws.proofs.Tabulate.{Filled, filled-none, filled-more, filled-all}
-use Rattle.hash.specs.Constants.{K}
 use Rattle.hash.specs.Prepared.{preparedWord, prepared}
 use Rattle.hash.proofs.block.prepared.Statement.{statement}
 use Rattle.hash.proofs.block.prepared.Tie as tie
 
 abbrev Inv-loop : tie.InvT-loop
-Inv-loop k w p₀ t₀ p t = Filled (preparedWord K w) 64 p t
+Inv-loop k w p₀ t₀ p t = Filled (preparedWord k w) 64 p t
 
 abbrev μ-loop : tie.MeasureT-loop
 μ-loop k w p₀ t₀ p t = 64 - t
@@ -36,9 +35,7 @@ loop-less : tie.Need-loop-less Inv-loop μ-loop
 loop-less c = search needs
 
 loop-again : tie.Need-loop-again Inv-loop μ-loop
-loop-again c =
-    let turn = c .before .before in
-    filled-more _ 64 _ _ _ (turn .loop .inv) (omega arith) (c .prepared-word .ensures ∙ rw (turn .before .pre))
+loop-again c = filled-more _ 64 _ _ _ (c .before .before .loop .inv) (omega arith) (c .prepared-word .ensures)
 
 returns : tie.Need-returns Inv-loop μ-loop
 unfolding prepared

@@ -1,4 +1,4 @@
--- Laws of exclusive or that the library lacks.
+-- What holds of single bits, and laws of exclusive or that the library lacks.
 -- Assumes nothing.
 use Prim.Native.Nat.{ℕ, zero, suc, _+_, _*_, _/_, _%_, _<_}
 use mathlib.Core.Path.{_≡_, refl, sym, ap, ap₂, _∙_}
@@ -7,20 +7,23 @@ use lib.Arith.{bin-ind}
 use lib.Bits.{bitXor, differ, xor-step, xor-shr, xor-mod, xor-comm}
 
 -- what holds at 0 and 1
-pub two : (P : ℕ → Type 0) → P 0 → P 1 → (x : ℕ) → x < 2 → P x
+two : (P : ℕ → Type 0) → P 0 → P 1 → (x : ℕ) → x < 2 → P x
 two P p q zero h = p
 two P p q (suc zero) h = q
 two P p q (suc (suc x)) h = absurd (not-suc-le-zero (le-of-suc-le-suc (le-of-suc-le-suc h)))
 
+-- what holds of any three bits, by its eight cases
+module _ (P : ℕ → ℕ → ℕ → Type 0) where
+  pub three-bits :
+      P 0 0 0 → P 0 0 1 → P 0 1 0 → P 0 1 1 → P 1 0 0 → P 1 0 1 → P 1 1 0 → P 1 1 1 →
+      (x : ℕ) → x < 2 → (y : ℕ) → y < 2 → (z : ℕ) → z < 2 → P x y z
+  three-bits a b c d e f g h =
+      two (λ x. (y : ℕ) → y < 2 → (z : ℕ) → z < 2 → P x y z)
+      (two (λ y. (z : ℕ) → z < 2 → P 0 y z) (two (P 0 0) a b) (two (P 0 1) c d))
+      (two (λ y. (z : ℕ) → z < 2 → P 1 y z) (two (P 1 0) e f) (two (P 1 1) g h))
+
 digit : (x : ℕ) → x < 2 → (y : ℕ) → y < 2 → (z : ℕ) → z < 2 → differ (bitXor x y) z ≡ differ x (bitXor y z)
-digit =
-    two (λ x. (y : ℕ) → y < 2 → (z : ℕ) → z < 2 → differ (bitXor x y) z ≡ differ x (bitXor y z))
-    (two (λ y. (z : ℕ) → z < 2 → differ (bitXor 0 y) z ≡ differ 0 (bitXor y z))
-    (two (λ z. differ (bitXor 0 0) z ≡ differ 0 (bitXor 0 z)) refl refl)
-    (two (λ z. differ (bitXor 0 1) z ≡ differ 0 (bitXor 1 z)) refl refl))
-    (two (λ y. (z : ℕ) → z < 2 → differ (bitXor 1 y) z ≡ differ 1 (bitXor y z))
-    (two (λ z. differ (bitXor 1 0) z ≡ differ 1 (bitXor 0 z)) refl refl)
-    (two (λ z. differ (bitXor 1 1) z ≡ differ 1 (bitXor 1 z)) refl refl))
+digit = three-bits (λ x y z. differ (bitXor x y) z ≡ differ x (bitXor y z)) refl refl refl refl refl refl refl refl
 
 pub xor-assoc : (a b c : ℕ) → bitXor (bitXor a b) c ≡ bitXor a (bitXor b c)
 xor-assoc =
