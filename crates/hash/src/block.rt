@@ -165,7 +165,7 @@ fn scheduled(block: &[u8]) -> [u32; 64]
     w
 }
 
-// The word that round t takes: its constant and the schedule's word as one sum.
+// The word that round t takes: its constant and the schedule's word as one sum modulo 2^32.
 fn prepared_word(k: &[u32; 64], w: &[u32; 64], t: usize) -> u32
     requires { ⌜ t < 64 ⌝ }
     ensures { λ r. ⌜ r ≡ preparedWord (now (k .entry)) (now (w .entry)) t ⌝ }
