@@ -95,6 +95,12 @@ enum {
     /* a seed update: a blank seed, which is 64 equal bytes, whatever the byte, as a page of flash memory that was never
        written. fortuna_update says what to do then */
     FORTUNA_BLANK_SEED = 36,
+    /* a call with quotas: more than 64 records, a source that has two, or a record that has spent above its allowance */
+    FORTUNA_BAD_QUOTAS = 37,
+    /* an event with quotas: no record of its source */
+    FORTUNA_NOT_LISTED = 38,
+    /* an event with quotas: spent and the 3 bytes of header and the data would pass the source's allowance */
+    FORTUNA_OVER_ALLOWANCE = 39,
     /* a malformed state, which no run of calls leaves: a pool length above 2^61 - 65; a byte after a pool's tail that
        is not 0; a pool below 64 bytes whose chain is not the empty pool's, which stands at fortuna_pool; counter 0 with
        a key that is not all zero; counter 0 with reseeded set; reseeded clear with a last_reseed or a reseed_count that
@@ -314,6 +320,49 @@ fortuna_draw fortuna_random_below(fortuna_state *state, uint32_t clock, uint64_t
    A list of 0 or 1 numbers makes no request, so that list and state are as before; FORTUNA_DONE or
    FORTUNA_MALFORMED. */
 fortuna_answer fortuna_shuffle(fortuna_state *state, uint32_t clock, uint16_t *list, size_t length);
+
+/* ---- Calls with quotas: a list of what each source may still bring
+
+   An instrument that chatters fills pools and brings pool 0 to 64 bytes by itself, so that the next reseed holds nearly
+   nothing of the others. A list of quotas bounds what each source brings between two pool reseeds. The caller keeps the
+   list beside the state, and lends it to each call: there is one function more for each of the six calls, which takes
+   the list after the state and goes on as the one without.
+
+   - An event of a source that has no record is refused (FORTUNA_NOT_LISTED), and so is one that would bring the source
+     above its allowance (FORTUNA_OVER_ALLOWANCE). An accepted event adds 3 and its data's length to the bytes spent.
+   - A call that made a pool reseed, which is one that emptied pools, sets all spent to 0, FORTUNA_NONE_DRAWN included.
+     No other call but an accepted event changes a record.
+   - Lend every call the list that the last one left. Then no source's events bring more bytes than its allowance from
+     one pool reseed to the next. A call without the list neither looks at it nor changes it: after fortuna_request has
+     made a pool reseed, the list is as before. An old list that is lent again counts from what it says.
+   - Records may stand in any order. With their sources in rising order the check of the list, which each call makes, is
+     quicker.
+   - The allowance is the caller's choice. 70 for an instrument lets 2 events of 32 bytes through, so that it can bring
+     pool 0 to 64 bytes by itself; with 60 for each of several instruments none of them can. */
+
+/* A record: a source, its allowance and the bytes spent. Any values may stand in it. A record of a source above 65,535
+   is as good as none: no event of such a source is accepted. */
+typedef struct {
+    uint32_t source;
+    uint32_t allowance;
+    uint32_t spent;
+} fortuna_quota;
+
+/* As the function of the same name without metered_, with the records records at quotas, which neither the state nor a
+   buffer may overlap. Beside the numbers of that function: FORTUNA_BAD_QUOTAS, and for an event FORTUNA_NOT_LISTED and
+   FORTUNA_OVER_ALLOWANCE. A shuffle of 0 or 1 numbers looks at the list too. */
+uint32_t fortuna_metered_event(fortuna_state *state, fortuna_quota *quotas, size_t records, uint32_t source,
+                               uint32_t pool, const uint8_t *data, size_t length);
+fortuna_answer fortuna_metered_request(fortuna_state *state, fortuna_quota *quotas, size_t records, uint32_t clock,
+                                       uint8_t *out, size_t length);
+fortuna_answer fortuna_metered_update(fortuna_state *state, fortuna_quota *quotas, size_t records, uint32_t clock,
+                                      uint8_t *seed, size_t length);
+fortuna_answer fortuna_metered_write(fortuna_state *state, fortuna_quota *quotas, size_t records, uint32_t clock,
+                                     uint8_t *seed, size_t length);
+fortuna_draw fortuna_metered_random_below(fortuna_state *state, fortuna_quota *quotas, size_t records, uint32_t clock,
+                                          uint64_t n, uint32_t tries);
+fortuna_answer fortuna_metered_shuffle(fortuna_state *state, fortuna_quota *quotas, size_t records, uint32_t clock,
+                                       uint16_t *list, size_t length);
 
 /* Runs a log of calls from the state before anything. The log is length characters, a frame to a line, in capital
    hexadecimal: 01 or 05 and source, pool, data for an event; 02 and clock, n for a request of n bytes; 03 and clock,
