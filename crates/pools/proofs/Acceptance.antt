@@ -10,7 +10,7 @@ use lib.Dec.{eqb, ltb}
 use lib.ListN.{length}
 use borrow.Author.Tests.{ltb-false, le-ltb, eqb-true, eqb-false}
 use Rattle.laws.specs.Refusals.{refuse}
-use Rattle.laws.proofs.Cases.{split, by-test, cond-cong, neither}
+use Rattle.laws.proofs.Cases.{split, by-test, neither}
 use Rattle.laws.proofs.Refusals.{passed}
 use Rattle.hash.specs.ShaD.{maxPoolLength}
 use Rattle.generator.specs.Counter.{maxCounter}
@@ -20,20 +20,7 @@ use Rattle.pools.specs.Events.{maxSource, poolCount, maxData, gain}
 use Rattle.pools.specs.Pool.{full}
 use Rattle.slots.specs.Shuffle.{hasRepeat}
 use Rattle.pools.specs.Refusals.{andThen, seedSize, maxBelow, maxTries, maxList, unseeded, spent, eventInput, eventState, eventNumber, requestInput, outputState, requestNumber, seedInput, writeNumber, updateInput, updateState, updateNumber, drawInput, drawNumber, listInput, shuffleState, shuffleNumber}
-
--- ---- two chains, one after the other
-
-both-passed : (m n : ℕ) → andThen m n ≡ 0 → (m ≡ 0) × (n ≡ 0)
-unfolding andThen
-both-passed m n e =
-    by-test (eqb m 0) ((m ≡ 0) × (n ≡ 0))
-    (λ t. (eqb-true m 0 t, rw t at e))
-    (λ t. absurd (eqb-false m 0 t (rw t at e)))
-
--- the second chain counts only where the first has no number
-pub then-cong : (m n n′ : ℕ) → (m ≡ 0 → n ≡ n′) → andThen m n ≡ andThen m n′
-unfolding andThen
-then-cong m n n′ h = cond-cong (eqb m 0) (λ t. h (eqb-true m 0 t)) (λ t. refl)
+use Rattle.pools.proofs.Chains.{both-passed, then-cong}
 
 -- ---- a call that makes b blocks
 
@@ -60,11 +47,13 @@ request-passed m c due n e = output-passed m c due (blockCount n + 2) (both-pass
 pub request-room : (m : Bool) (c : ℕ) (due : Bool) (n : ℕ) → requestNumber m c due n ≡ 0 → c + cond due 1 0 + (blockCount n + 2) ≤ maxCounter
 request-room m c due n e = not-spent c due (blockCount n + 2) (request-passed m c due n e .room)
 
+pub request-input : (n : ℕ) → requestInput n ≡ 0 → n ≤ maxRequest
+unfolding requestInput
+request-input n e = ltb-false maxRequest n (passed (ltb maxRequest n) 14 0 (omega arith) e .0)
+
 pub request-short : (m : Bool) (c : ℕ) (due : Bool) (n : ℕ) → requestNumber m c due n ≡ 0 → n ≤ maxRequest
-unfolding requestNumber requestInput
-request-short m c due n e =
-    let p = both-passed (refuse (ltb maxRequest n) 14 0) (outputState m c due (blockCount n + 2)) e in
-    ltb-false maxRequest n (passed (ltb maxRequest n) 14 0 (omega arith) (p .0) .0)
+unfolding requestNumber
+request-short m c due n e = request-input n (both-passed (requestInput n) (outputState m c due (blockCount n + 2)) e .0)
 
 -- ---- a seed call
 
@@ -169,15 +158,18 @@ pub draw-passed : (m : Bool) (c : ℕ) (due : Bool) (n d : ℕ) → drawNumber m
 unfolding drawNumber
 draw-passed m c due n d e = output-passed m c due (3 * d) (both-passed (drawInput n d) (outputState m c due (3 * d)) e .1)
 
-pub draw-bounds : (m : Bool) (c : ℕ) (due : Bool) (n d : ℕ) → drawNumber m c due n d ≡ 0 → (0 < n) × (n ≤ maxBelow) × (0 < d) × (d ≤ maxTries)
-unfolding drawNumber drawInput
-draw-bounds m c due n d e =
+pub draw-input : (n d : ℕ) → drawInput n d ≡ 0 → (0 < n) × (n ≤ maxBelow) × (0 < d) × (d ≤ maxTries)
+unfolding drawInput
+draw-input n d e =
     let tried : Bool = eqb d 0 || ltb maxTries d in
-    let input = both-passed (refuse (eqb n 0 || ltb maxBelow n) 31 (refuse tried 32 0)) (outputState m c due (3 * d)) e .0 in
-    let p = passed (eqb n 0 || ltb maxBelow n) 31 (refuse tried 32 0) (omega arith) input in
+    let p = passed (eqb n 0 || ltb maxBelow n) 31 (refuse tried 32 0) (omega arith) e in
     let below = from-one n maxBelow (p .0) in
     let times = from-one d maxTries (passed tried 32 0 (omega arith) (p .1) .0) in
     (below .0, below .1, times .0, times .1)
+
+pub draw-bounds : (m : Bool) (c : ℕ) (due : Bool) (n d : ℕ) → drawNumber m c due n d ≡ 0 → (0 < n) × (n ≤ maxBelow) × (0 < d) × (d ≤ maxTries)
+unfolding drawNumber
+draw-bounds m c due n d e = draw-input n d (both-passed (drawInput n d) (outputState m c due (3 * d)) e .0)
 
 -- ---- a shuffle
 
@@ -190,10 +182,12 @@ shuffle-passed m c due list e h =
     let s = both-passed (listInput list) (cond (ltb size 2) (refuse m 21 0) (outputState m c due b)) e .1 in
     output-passed m c due b (rw (le-ltb size 2 h) at s)
 
-pub shuffle-bound : (m : Bool) (c : ℕ) (due : Bool) (list : List ℕ) → shuffleNumber m c due list ≡ 0 → length list ≤ maxList
-unfolding shuffleNumber listInput
-shuffle-bound m c due list e =
-    let wrong : Bool = ltb maxList (length list) || hasRepeat list in
-    let input = both-passed (refuse wrong 31 0) (shuffleState m c due (length list)) e .0 in
-    let p = passed wrong 31 0 (omega arith) input in
+pub list-input : (list : List ℕ) → listInput list ≡ 0 → length list ≤ maxList
+unfolding listInput
+list-input list e =
+    let p = passed (ltb maxList (length list) || hasRepeat list) 31 0 (omega arith) e in
     ltb-false maxList (length list) (neither (ltb maxList (length list)) (hasRepeat list) (p .0) .0)
+
+pub shuffle-bound : (m : Bool) (c : ℕ) (due : Bool) (list : List ℕ) → shuffleNumber m c due list ≡ 0 → length list ≤ maxList
+unfolding shuffleNumber
+shuffle-bound m c due list e = list-input list (both-passed (listInput list) (shuffleState m c due (length list)) e .0)

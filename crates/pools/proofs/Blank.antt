@@ -20,6 +20,7 @@ use Rattle.pools.specs.Effects.{unchanged}
 use Rattle.pools.specs.Calls.{Call, event, request, update, write, draw, shuffle, inputBuffer, callNumber, callEffect, callFound, effectOf, outcome, step}
 use Rattle.pools.specs.Promises.{callNumbers}
 use Rattle.pools.proofs.Bounds.{call-numbers}
+use Rattle.pools.proofs.Chains.{then-nothing}
 use Rattle.pools.specs.Blank.{blankUpdate, BlankLaw}
 
 -- ---- a page is blank exactly if it is 64 times one byte
@@ -40,10 +41,6 @@ not-blank seed h = by-test (blank seed) (blank seed ≡ false) (λ t. absurd (h 
 page-number : (m : Bool) (c : ℕ) (d : Bool) (b : ℕ) → updateNumber m c d (replicate 64 b) ≡ 36
 unfolding updateNumber updateInput seedInput seedSize andThen
 page-number m c d b = rw (blank-page b)
-
-then-accepted : (n : ℕ) → andThen n 0 ≡ n
-unfolding andThen
-then-accepted n = by-test (eqb n 0) (cond (eqb n 0) 0 n ≡ n) (λ t. rw t (sym (eqb-true n 0 t))) (λ t. rw t)
 
 other-number : (m : Bool) (c : ℕ) (d : Bool) (seed : List ℕ) → blank seed ≡ false
     → updateNumber m c d seed ≡ andThen (seedInput seed) (updateState m c d)
@@ -125,7 +122,7 @@ write-effect : (s : Fortuna) (clock : ℕ) (held other : List ℕ) → length he
 unfolding step outcome callFound callEffect effectOf
 write-effect s clock held other e n =
     let same = write-check s clock held other e in
-    let accepted : callNumber s (write clock other) ≡ 0 = sym same ∙ sym (then-accepted (callNumber s (write clock held))) ∙ n in
+    let accepted : callNumber s (write clock other) ≡ 0 = sym same ∙ sym (then-nothing (callNumber s (write clock held))) ∙ n in
     rw (same, accepted)
 
 pub blank-law : BlankLaw

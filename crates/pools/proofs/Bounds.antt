@@ -21,15 +21,11 @@ use Rattle.pools.specs.Calls.{Call, event, request, update, write, draw,
 use Rattle.pools.specs.Promises.{number, callNumbers, CallNumbersLaw, NoneDrawnLaw}
 use Rattle.pools.specs.declared.Fortuna.{Fortuna}
 use Rattle.pools.specs.declared.answer.Answer.{Answer}
-use Rattle.pools.specs.declared.answer.Answer.the-variants.{Done, SourceOutOfRange, PoolOutOfRange, DataLength, RequestTooLong, SeedSize, Malformed, PoolFull, Unseeded, CounterSpent, SlotRange, TryRange, NoneDrawn, BlankSeed}
+use Rattle.pools.specs.declared.answer.Answer.the-variants.{Done, SourceOutOfRange, PoolOutOfRange, DataLength, RequestTooLong, SeedSize, Malformed, PoolFull, Unseeded, CounterSpent, SlotRange, TryRange, NoneDrawn, BlankSeed, QuotasMalformed, SourceNotListed, OverAllowance}
+use Rattle.pools.proofs.Chains.{then-holds}
 use Rattle.pools.proofs.OneReseed.{first-try, first-shuffle}
 
 -- ---- numbers
-
--- what holds of each number of two chains holds of the first that applies
-then-holds : (P : ℕ → Type 0) (first second : ℕ) → P first → P second → P (andThen first second)
-unfolding andThen
-then-holds P first second h k = split P (eqb first 0) (λ t. k) (λ t. h)
 
 -- a number of the call's list, of two digits
 record Known (c : Call) (n : ℕ) : Type 0 where
@@ -100,6 +96,9 @@ answer-small SlotRange = lit≤ tt
 answer-small TryRange = lit≤ tt
 answer-small NoneDrawn = lit≤ tt
 answer-small BlankSeed = lit≤ tt
+answer-small QuotasMalformed = lit≤ tt
+answer-small SourceNotListed = lit≤ tt
+answer-small OverAllowance = lit≤ tt
 
 -- ---- pools emptied
 

@@ -1,6 +1,7 @@
 pub mod Bits
 pub mod Checks
 pub mod Room
+pub mod Chains
 pub mod Acceptance
 pub mod Gains
 pub mod EventCalls

@@ -6,7 +6,7 @@ use Prim.Native.Nat.{ℕ}
 use lib.Dec.{eqb}
 use Rattle.pools.specs.Promises.{number, NumberInjective}
 use Rattle.pools.specs.declared.answer.Answer.{Answer}
-use Rattle.pools.specs.declared.answer.Answer.the-variants.{Done, SourceOutOfRange, PoolOutOfRange, DataLength, RequestTooLong, SeedSize, Malformed, PoolFull, Unseeded, CounterSpent, SlotRange, TryRange, NoneDrawn, BlankSeed}
+use Rattle.pools.specs.declared.answer.Answer.the-variants.{Done, SourceOutOfRange, PoolOutOfRange, DataLength, RequestTooLong, SeedSize, Malformed, PoolFull, Unseeded, CounterSpent, SlotRange, TryRange, NoneDrawn, BlankSeed, QuotasMalformed, SourceNotListed, OverAllowance}
 
 -- the answer that a number belongs to
 answerOf : ℕ → Answer
@@ -20,7 +20,11 @@ answerOf n =
     (cond (eqb n 21) Malformed
     (cond (eqb n 22) PoolFull
     (cond (eqb n 23) Unseeded
-    (cond (eqb n 24) CounterSpent (cond (eqb n 31) SlotRange (cond (eqb n 32) TryRange (cond (eqb n 33) NoneDrawn BlankSeed))))))))))))
+    (cond (eqb n 24) CounterSpent
+    (cond (eqb n 31) SlotRange
+    (cond (eqb n 32) TryRange
+    (cond (eqb n 33) NoneDrawn
+    (cond (eqb n 36) BlankSeed (cond (eqb n 37) QuotasMalformed (cond (eqb n 38) SourceNotListed OverAllowance)))))))))))))))
 
 read-back : (a : Answer) → answerOf (number a) ≡ a
 unfolding answerOf number
@@ -38,6 +42,9 @@ read-back SlotRange = refl
 read-back TryRange = refl
 read-back NoneDrawn = refl
 read-back BlankSeed = refl
+read-back QuotasMalformed = refl
+read-back SourceNotListed = refl
+read-back OverAllowance = refl
 
 pub number-injective : NumberInjective
 number-injective a b e = sym (read-back a) ∙ ap answerOf e ∙ read-back b

@@ -3,9 +3,11 @@
 use mathlib.Core.Path.{_≡_, refl, sym, ap, _∙_}
 use mathlib.Core.Bool.{Bool, true, false, cond}
 use mathlib.Core.List.{List}
-use Prim.Native.Nat.{ℕ, zero, suc}
-use lib.Dec.{eqb, eqb·suc-zero}
+use mathlib.Core.Logic.{_≢_}
+use Prim.Native.Nat.{ℕ}
+use lib.Dec.{eqb}
 use lib.ListN.{length}
+use borrow.Author.Tests.{ne-eqb}
 use Rattle.laws.proofs.Refusals.{accepted}
 use Rattle.generator.specs.Steps.{decode}
 use Rattle.pools.specs.State.{counterOf, malformed, due}
@@ -13,6 +15,7 @@ use Rattle.pools.specs.Refusals.{andThen, requestNumber, writeNumber, up
 use Rattle.pools.specs.Effects.{Effect, unchanged}
 use Rattle.pools.specs.Calls.{Call, event, request, update, write, draw, shuffle, inputBuffer, callNumber, callEffect, callFound, effectOf, outcome, step}
 use Rattle.pools.specs.declared.Fortuna.{Fortuna}
+use Rattle.pools.proofs.Chains.{then-nothing}
 
 -- ---- a call without draws comes to no 33
 
@@ -33,11 +36,12 @@ all-found s (write clock seed) h = refl
 all-found s (draw clock n d) h = absurd h
 all-found s (shuffle clock list) h = absurd h
 
--- a chain with nothing after it
-then-nothing : (n : ℕ) → andThen n 0 ≡ n
-unfolding andThen
-then-nothing zero = refl
-then-nothing (suc n) = rw (eqb·suc-zero n)
+-- ---- a refused call gives its number, and leaves everything as it was
+
+pub outcome-refused : {S : Type 0} (n : ℕ) (found : Bool) (value : ℕ) (buffer : List ℕ) (s : S) (done : Effect S) → n ≢ 0
+    → outcome n found value buffer s done ≡ record { number = n; value = 0; effect = unchanged buffer s }
+unfolding outcome effectOf andThen
+outcome-refused n found value buffer s done h = rw (ne-eqb n 0 h)
 
 -- ---- k is the number that the code came to, d its test for a call that is done
 

@@ -2,12 +2,13 @@
 -- Assumes nothing.
 use mathlib.Core.Bool.{Bool, true, cond}
 use mathlib.Core.List.{List, [], _∷_}
-use Prim.Native.Nat.{ℕ, suc}
+use Prim.Native.Nat.{ℕ, suc, _+_, _*_}
 use lib.ListN.{length}
 use Rattle.laws.specs.Refusals.{guarded}
+use Rattle.generator.specs.Steps.{blockCount}
 use Rattle.pools.specs.Events.{eventBytes}
 use Rattle.pools.specs.State.{fresh, poolAt, counterOf, malformed, due}
-use Rattle.pools.specs.Refusals.{andThen, eventNumber, requestNumber, writeNumber, updateNumber, drawNumber, shuffleNumber}
+use Rattle.pools.specs.Refusals.{andThen, seedSize, eventInput, eventState, eventNumber, requestInput, outputState, requestNumber, seedInput, writeNumber, updateInput, updateState, updateNumber, drawInput, drawNumber, listInput, shuffleState, shuffleNumber}
 use Rattle.pools.specs.Effects.{Effect, unchanged, addEvent, randomData, updateSeed, writeSeed}
 use Rattle.pools.specs.Draws.{tries, shuffled, tryAt}
 use Rattle.pools.specs.declared.Fortuna.{Fortuna}
@@ -38,6 +39,24 @@ readingOf (update clock seed) = clock
 readingOf (write clock seed) = clock
 readingOf (draw clock n d) = clock
 readingOf (shuffle clock list) = clock
+
+-- a call's input numbers (11 to 15, 31, 32, 36), by its arguments alone
+unfoldable pub inputNumber : Call → ℕ
+inputNumber (event source pool content) = eventInput source pool (length content)
+inputNumber (request clock buffer) = requestInput (length buffer)
+inputNumber (update clock seed) = updateInput seed
+inputNumber (write clock seed) = seedInput seed
+inputNumber (draw clock n d) = drawInput n d
+inputNumber (shuffle clock list) = listInput list
+
+-- its state numbers (21 to 24)
+unfoldable pub stateNumber : Fortuna → Call → ℕ
+stateNumber s (event source pool content) = eventState (malformed s) (poolAt s pool .length) (length content)
+stateNumber s (request clock buffer) = outputState (malformed s) (counterOf s) (due s clock) (blockCount (length buffer) + 2)
+stateNumber s (update clock seed) = updateState (malformed s) (counterOf s) (due s clock)
+stateNumber s (write clock seed) = outputState (malformed s) (counterOf s) (due s clock) (blockCount seedSize + 2)
+stateNumber s (draw clock n d) = outputState (malformed s) (counterOf s) (due s clock) (3 * d)
+stateNumber s (shuffle clock list) = shuffleState (malformed s) (counterOf s) (due s clock) (length list)
 
 -- 0, or the number that refuses the call before it does anything
 unfoldable pub callNumber : Fortuna → Call → ℕ
@@ -94,13 +113,14 @@ outcome n found value buffer s done =
 unfoldable pub step : Fortuna → Call → Outcome Fortuna
 step s c = outcome (callNumber s c) (callFound s c) (callValue s c) (inputBuffer c) s (callEffect s c)
 
--- the outcomes of a list of calls, each given the state that the last one left; a step also takes the call's place in the list
-unfoldable pub runFrom : {S : Type 0} → (ℕ → S → Call → Outcome S) → ℕ → S → List Call → List (Outcome S)
+-- the outcomes of a list of calls of any kind C, each given the state that the last one left; a step also takes the call's place in
+-- the list
+unfoldable pub runFrom : {C S : Type 0} → (ℕ → S → C → Outcome S) → ℕ → S → List C → List (Outcome S)
 runFrom f place s [] = []
 runFrom f place s (c ∷ cs) = f place s c ∷ runFrom f (suc place) (f place s c .effect .next) cs
 
 -- the state that a list of calls leaves
-unfoldable pub stateFrom : {S : Type 0} → (ℕ → S → Call → Outcome S) → ℕ → S → List Call → S
+unfoldable pub stateFrom : {C S : Type 0} → (ℕ → S → C → Outcome S) → ℕ → S → List C → S
 stateFrom f place s [] = s
 stateFrom f place s (c ∷ cs) = stateFrom f (suc place) (f place s c .effect .next) cs
 

@@ -18,6 +18,9 @@ pub enum Answer {
     TryRange,
     NoneDrawn,
     BlankSeed,
+    QuotasMalformed,
+    SourceNotListed,
+    OverAllowance,
 }
 
 impl Answer {
@@ -40,6 +43,9 @@ impl Answer {
             Answer::TryRange => 32,
             Answer::NoneDrawn => 33,
             Answer::BlankSeed => 36,
+            Answer::QuotasMalformed => 37,
+            Answer::SourceNotListed => 38,
+            Answer::OverAllowance => 39,
         }
     }
 

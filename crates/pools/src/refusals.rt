@@ -12,7 +12,7 @@ ghost use Prim.Native.Nat.{_+_, _≤_};
 ghost use lib.ListN.{length};
 ghost use Rattle.generator.specs.Steps.{decode};
 ghost use Rattle.pools.specs.Pool.{full};
-ghost use Rattle.pools.specs.Refusals.{unseeded, spent, eventNumber, outputState, requestNumber, writeNumber, blank, updateNumber, drawNumber, shuffleNumber};
+ghost use Rattle.pools.specs.Refusals.{unseeded, spent, eventNumber, outputState, requestInput, requestNumber, seedInput, writeNumber, blank, updateInput, updateNumber, drawInput, drawNumber, listInput, shuffleNumber};
 ghost use Rattle.pools.specs.Promises.{number};
 
 const MAX_SOURCE: u32 = 65535;
@@ -108,22 +108,44 @@ fn output_answer(malformed: bool, generator: Generator, due: bool, b: u32) -> An
     Answer::Done
 }
 
-// The answer to a request of n bytes.
-pub(crate) fn request_answer(malformed: bool, generator: Generator, due: bool, n: usize) -> Answer
-    ensures { λ r. ⌜ number r ≡ requestNumber malformed (decode generator .count) due n ⌝ }
+// The answer to a request of n bytes by its input alone, as it stands before the state is looked at.
+pub fn request_input(n: usize) -> Answer
+    ensures { λ r. ⌜ number r ≡ requestInput n ⌝ }
 {
     if n > max_request() {
         return Answer::RequestTooLong;
     }
+    Answer::Done
+}
+
+// The answer to a request of n bytes.
+pub(crate) fn request_answer(malformed: bool, generator: Generator, due: bool, n: usize) -> Answer
+    ensures { λ r. ⌜ number r ≡ requestNumber malformed (decode generator .count) due n ⌝ }
+{
+    let input = request_input(n);
+    if !input.is_done() {
+        return input;
+    }
     output_answer(malformed, generator, due, block_count(n) as u32 + 2)
+}
+
+// The answer to a seed write on the lent bytes, by these alone.
+pub fn seed_input(seed: &[u8]) -> Answer
+    ensures { λ r. ⌜ number r ≡ seedInput (now (seed .entry)) ⌝ }
+{
+    if seed.len() != SEED_SIZE {
+        return Answer::SeedSize;
+    }
+    Answer::Done
 }
 
 // The answer to a seed write on the lent bytes.
 pub(crate) fn write_answer(malformed: bool, generator: Generator, due: bool, seed: &[u8]) -> Answer
     ensures { λ r. ⌜ number r ≡ writeNumber malformed (decode generator .count) due (now (seed .entry)) ⌝ }
 {
-    if seed.len() != SEED_SIZE {
-        return Answer::SeedSize;
+    let input = seed_input(seed);
+    if !input.is_done() {
+        return input;
     }
     output_answer(malformed, generator, due, block_count(SEED_SIZE) as u32 + 2)
 }
@@ -143,9 +165,9 @@ fn is_blank(seed: &[u8]) -> bool
     differing == 0
 }
 
-// The answer to a seed update on the lent bytes.
-pub(crate) fn update_answer(malformed: bool, generator: Generator, due: bool, seed: &[u8]) -> Answer
-    ensures { λ r. ⌜ number r ≡ updateNumber malformed (decode generator .count) due (now (seed .entry)) ⌝ }
+// The answer to a seed update on the lent bytes, by these alone.
+pub fn update_input(seed: &[u8]) -> Answer
+    ensures { λ r. ⌜ number r ≡ updateInput (now (seed .entry)) ⌝ }
 {
     if seed.len() != SEED_SIZE {
         return Answer::SeedSize;
@@ -153,11 +175,41 @@ pub(crate) fn update_answer(malformed: bool, generator: Generator, due: bool, se
     if is_blank(seed) {
         return Answer::BlankSeed;
     }
+    Answer::Done
+}
+
+// The answer to a seed update on the lent bytes.
+pub(crate) fn update_answer(malformed: bool, generator: Generator, due: bool, seed: &[u8]) -> Answer
+    ensures { λ r. ⌜ number r ≡ updateNumber malformed (decode generator .count) due (now (seed .entry)) ⌝ }
+{
+    let input = update_input(seed);
+    if !input.is_done() {
+        return input;
+    }
     if malformed {
         return Answer::Malformed;
     }
     if is_spent(generator, due, 7) {
         return Answer::CounterSpent;
+    }
+    Answer::Done
+}
+
+// The answer to a draw below n with d tries, by these alone.
+pub fn draw_input(n: u64, d: u32) -> Answer
+    ensures { λ r. ⌜ number r ≡ drawInput n d ⌝ }
+{
+    if n == 0 {
+        return Answer::SlotRange;
+    }
+    if n > MAX_BELOW {
+        return Answer::SlotRange;
+    }
+    if d == 0 {
+        return Answer::TryRange;
+    }
+    if d > MAX_TRIES {
+        return Answer::TryRange;
     }
     Answer::Done
 }
@@ -172,22 +224,27 @@ pub(crate) fn draw_answer(
 ) -> Answer
     ensures { λ r. ⌜ number r ≡ drawNumber malformed (decode generator .count) due n d ⌝ }
 {
-    if n == 0 {
-        return Answer::SlotRange;
-    }
-    if n > MAX_BELOW {
-        return Answer::SlotRange;
-    }
-    if d == 0 {
-        return Answer::TryRange;
-    }
-    if d > MAX_TRIES {
-        return Answer::TryRange;
+    let input = draw_input(n, d);
+    if !input.is_done() {
+        return input;
     }
     output_answer(malformed, generator, due, 3 * d)
 }
 
-// The answer to a shuffle of the list, likewise. A list that is too long is not searched for repeats.
+// The answer to a shuffle of the list, by that alone. A list that is too long is not searched for repeats.
+pub fn list_input(list: &[u16]) -> Answer
+    ensures { λ r. ⌜ number r ≡ listInput (now (list .entry)) ⌝ }
+{
+    if list.len() > MAX_LIST {
+        return Answer::SlotRange;
+    }
+    if has_repeat(list) {
+        return Answer::SlotRange;
+    }
+    Answer::Done
+}
+
+// The answer to a shuffle of the list, as its check gives it.
 pub(crate) fn shuffle_answer(
     malformed: bool,
     generator: Generator,
@@ -196,13 +253,11 @@ pub(crate) fn shuffle_answer(
 ) -> Answer
     ensures { λ r. ⌜ number r ≡ shuffleNumber malformed (decode generator .count) due (now (list .entry)) ⌝ }
 {
+    let input = list_input(list);
+    if !input.is_done() {
+        return input;
+    }
     let count = list.len();
-    if count > MAX_LIST {
-        return Answer::SlotRange;
-    }
-    if has_repeat(list) {
-        return Answer::SlotRange;
-    }
     if count < 2 {
         if malformed {
             return Answer::Malformed;

@@ -27,7 +27,8 @@ use Rattle.reference.specs.Reference.{Reference, empty, poolContents, du
 use Rattle.reference.specs.Agreement.{concrete, concreteOutcome, RunIsSteps, Agrees}
 use Rattle.reference.proofs.Invariant.{Sound, sound-empty, sound-event, empty-contents}
 use Rattle.reference.proofs.Concrete.{size-concrete, counter-concrete, due-concrete, malformed-concrete}
-use Rattle.pools.proofs.Acceptance.{then-cong, not-spent, event-passed, event-room, event-size, request-room, write-room, update-room, draw-passed, shuffle-passed}
+use Rattle.pools.proofs.Chains.{then-cong}
+use Rattle.pools.proofs.Acceptance.{not-spent, event-passed, event-room, event-size, request-room, write-room, update-room, draw-passed, shuffle-passed}
 use Rattle.pools.proofs.Gains.{length-event}
 use Rattle.pools.proofs.EachTry.{idle-shuffle}
 use Rattle.reference.proofs.Advances.{outcome-keeps}
