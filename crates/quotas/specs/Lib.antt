@@ -1,0 +1,5 @@
+pub mod Records
+pub mod Charges
+pub mod Entries
+pub mod Left
+pub mod Runs
