@@ -31,6 +31,11 @@ pool-stored : (s : Fortuna) (i : ℕ) (q : Hasher) → length (s .pools) ≡ 32 
 unfolding poolAt withPool
 pool-stored s i q long h = getD-set-same (s .pools) i q _ (rw long h)
 
+-- a store of the pool that stands there changes nothing
+pub pool-kept : (s : Fortuna) (i : ℕ) → withPool s i (poolAt s i) ≡ s
+unfolding poolAt withPool
+pool-kept s i = rw (set-getD (s .pools) i (record { chain = []; tail = []; length = 0 }))
+
 -- k is the number that the code came to
 module _ (s : Fortuna) (source pool : ℕ) (d : List ℕ) (m : Bool) (k : ℕ) (formed : m ≡ malformed s)
     (numbered : k ≡ eventNumber m (poolAt s (pool % 32) .length) source pool (length d)) where
@@ -82,11 +87,10 @@ module _ (s : Fortuna) (source pool : ℕ) (d : List ℕ) (m : Bool) (k : ℕ) (
         (given .0, sym (given .1), refl, given .2, rw (← given .2) (sym (pool-stored s (pool % 32) q long (omega arith))))
 
     pub comes-kept : t ≡ false → (q : Hasher) → q ≡ poolAt s (pool % 32) → Comes q
-    unfolding withPool poolAt poolCount
+    unfolding poolCount
     comes-kept h q e =
         let given = gives-kept s (event source pool d) k t event-number tested tt h .0 in
-        let none : Hasher = record { chain = []; tail = []; length = 0 } in
-        (given .0, sym (given .1), refl, rw (e, set-getD (s .pools) (pool % 32) none) (given .2), rw (← given .2) e)
+        (given .0, sym (given .1), refl, rw (e, pool-kept s (pool % 32)) (given .2), rw (← given .2) e)
 
 -- the place is one of the pools
 pub gain-place : (pool place : ℕ) → place ≡ pool % poolCount → place < 32

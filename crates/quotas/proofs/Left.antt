@@ -76,7 +76,7 @@ passed-alone rs h = neither (ltb maxQuotas (length rs)) (repeats rs) (neither (l
 -- ---- the law
 
 module _ (s : Fortuna) (rs : List Quota) where
-  left-refused : (c : Call) → entryNumber s (taking (within rs) c) ≢ 0 → leftBy s rs c ≡ rs
+  pub left-refused : (c : Call) → entryNumber s (taking (within rs) c) ≢ 0 → leftBy s rs c ≡ rs
   unfolding leftBy
   left-refused c h = let r = entry-refused s (taking (within rs) c) h in left-not-done c rs _ (r .1) (r .0)
 
@@ -90,7 +90,7 @@ module _ (s : Fortuna) (rs : List Quota) where
   left-none-drawn c n q = left-not-done c rs _ q (ap (λ (k : ℕ). eqb k 0) n)
 
   module _ (source pool : ℕ) (content : List ℕ) (accepted : entryNumber s (taking (within rs) (event source pool content)) ≡ 0) where
-    left-charged : leftBy s rs (event source pool content) ≡ charged rs source (gain (length content))
+    pub left-charged : leftBy s rs (event source pool content) ≡ charged rs source (gain (length content))
     unfolding leftBy chargedFor
     left-charged =
         let done = event-done s (within rs) source pool content accepted in

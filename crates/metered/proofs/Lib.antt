@@ -1,0 +1,3 @@
+pub mod Gating
+pub mod Eventing
+pub mod Buffered
