@@ -1,23 +1,23 @@
--- What the loops and branches of the thin functions need: the place of a source, the list cleared so far, the fault so far, and an event's charge.
+-- What the loops and branches of the thin functions need: the place of a source, the list cleared so far, an event's charge, and what a check knows so far.
 -- Assumes nothing.
 use mathlib.Core.Path.{_≡_, refl, sym, ap, subst, _∙_}
 use Prim.Native.Nat.{ℕ, zero, suc, _+_, _≤_, _<_}
-use native.Mathlib.Nat.{not-suc-le-zero, le-of-suc-le-suc, lt-irrefl, lt-of-lt-of-le, le-antisymm}
+use native.Mathlib.Nat.{not-suc-le-zero, le-of-suc-le-suc, lt-irrefl, lt-of-lt-of-le}
 use native.Mathlib.Numerals.{add-one}
 use native.Mathlib.Omega.{arith}
 use mathlib.Core.Bool.{Bool, true, false, not, cond, _&&_, _||_, true≢false}
 use mathlib.Core.Logic.{_⊎_, inl, inr, ⊎-elim}
 use mathlib.Core.List.{List, [], _∷_}
-use lib.Dec.{T, eqb, ltb, eqb·suc-zero}
+use lib.Dec.{T, eqb, leb, ltb, eqb·suc-zero}
 use lib.ListN.{length, getD, set, drop, drop-of-length-le}
 use lib.Seq.{drop-cons}
-use borrow.Author.Tests.{ltb-true, ltb-false, lt-ltb, le-ltb, eqb-true, eq-eqb, ne-eqb}
+use borrow.Author.Tests.{ltb-true, ltb-false, leb-true, lt-ltb, le-ltb, eqb-true, eq-eqb, ne-eqb}
 use Rattle.laws.specs.Refusals.{refuse}
 use Rattle.laws.proofs.Cases.{by-test, neither}
 use Rattle.quotas.specs.declared.Quota.{Quota}
 use Rattle.quotas.specs.declared.Verdict.{Verdict}
-use Rattle.quotas.specs.Records.{noRecord, maxQuotas, placeOf, isListed, quotaOf, repeats, overspent, malformedQuotas, quotasNumber, chargedBy, unspent, charged, cleared}
-use Rattle.quotas.specs.Charges.{comesFirst, chargeNumber, chargeList, clearedAfter, verdictOf, unlistedOf, longOf, faultAt}
+use Rattle.quotas.specs.Records.{noRecord, maxQuotas, placeOf, placeFrom, isListed, quotaOf, repeats, overspent, malformedQuotas, quotasNumber, chargedBy, unspent, charged, cleared}
+use Rattle.quotas.specs.Charges.{comesFirst, chargeNumber, chargeList, clearedAfter, verdictOf, unlistedOf, firstBound, startAt, boundAfter, faultOf}
 use Rattle.quotas.proofs.Lists.{quota-here, quota-later, charged-here, charged-later, overspent-not, not-overspent, repeats-not}
 
 -- ---- the place of a source, at the records from i on
@@ -29,26 +29,37 @@ cond-no : (t : Bool) (a b : ℕ) → T (not t) → cond t a b ≡ b
 cond-no true a b h = absurd h
 cond-no false a b h = refl
 
-module _ (rs : List Quota) (x i : ℕ) (before : placeOf rs x ≡ i + placeOf (drop i rs) x) where
+module _ (rs : List Quota) (x i place : ℕ) (before : place ≡ i + placeOf (drop i rs) x) where
   split-there : i < length rs → placeOf (drop i rs) x ≡ cond (eqb (getD rs i noRecord .source) x) 0 (suc (placeOf (drop (suc i) rs) x))
   unfolding placeOf
   split-there l = ap (λ (l : List Quota). placeOf l x) (drop-cons rs i noRecord l)
 
   -- the record at i is of the source: it is the place
-  pub place-hit : i < length rs → T (eqb (getD rs i noRecord .source) x) → i ≡ placeOf rs x
-  place-hit l t = let e : placeOf (drop i rs) x ≡ 0 = split-there l ∙ cond-yes (eqb (getD rs i noRecord .source) x) 0 (suc (placeOf (drop (suc i) rs) x)) t in omega arith
+  pub place-hit : i < length rs → T (eqb (getD rs i noRecord .source) x) → i ≡ place
+  place-hit l t =
+      let e : placeOf (drop i rs) x ≡ 0 = split-there l ∙ cond-yes (eqb (getD rs i noRecord .source) x) 0 (suc (placeOf (drop (suc i) rs) x)) t in
+      omega arith
 
   -- it is not: the search goes on after it
-  pub place-miss : i < length rs → T (not (eqb (getD rs i noRecord .source) x)) → placeOf rs x ≡ (i + 1) + placeOf (drop (i + 1) rs) x
-  place-miss l t = let e : placeOf (drop i rs) x ≡ suc (placeOf (drop (suc i) rs) x) = split-there l ∙ cond-no (eqb (getD rs i noRecord .source) x) 0 (suc (placeOf (drop (suc i) rs) x)) t in rw (add-one i) (omega arith)
+  pub place-miss : i < length rs → T (not (eqb (getD rs i noRecord .source) x)) → place ≡ (i + 1) + placeOf (drop (i + 1) rs) x
+  place-miss l t =
+      let e : placeOf (drop i rs) x ≡ suc (placeOf (drop (suc i) rs) x) =
+      split-there l ∙ cond-no (eqb (getD rs i noRecord .source) x) 0 (suc (placeOf (drop (suc i) rs) x)) t
+      in rw (add-one i) (omega arith)
 
   -- there is no record at i
-  pub place-none : length rs ≤ i → i ≡ placeOf rs x
+  pub place-none : length rs ≤ i → i ≡ place
   unfolding placeOf
   place-none l = omega (arith, before, ap (λ (l : List Quota). placeOf l x) (drop-of-length-le rs l))
 
-pub place-start : (rs : List Quota) (x : ℕ) → placeOf rs x ≡ 0 + placeOf (drop 0 rs) x
-place-start rs x = omega arith
+pub place-start : (rs : List Quota) (x start : ℕ) → placeFrom rs x start ≡ start + placeOf (drop start rs) x
+unfolding placeFrom
+place-start rs x start = refl
+
+-- from 0 it is the source's place in the list
+pub place-from-0 : (rs : List Quota) (x : ℕ) → placeFrom rs x 0 ≡ placeOf rs x
+unfolding placeFrom
+place-from-0 rs x = omega arith
 
 -- ---- the list with its first i records cleared
 pub upTo : ℕ → List Quota → List Quota
@@ -158,7 +169,11 @@ module _ (rs : List Quota) (x cost number : ℕ) where
   charged-case :
       (t u z : Bool) →
       let n = cond t number (refuse u 39 number) in
-      let v = cond {A = Verdict} t (record { number = number; after = quotaOf rs x }) (cond u (record { number = 39; after = quotaOf rs x }) (cond z (record { number = 0; after = chargedBy (quotaOf rs x) cost }) (record { number = number; after = quotaOf rs x }))) in
+      let v =
+      cond {A = Verdict} t (record { number = number; after = quotaOf rs x })
+      (cond u (record { number = 39; after = quotaOf rs x })
+      (cond z (record { number = 0; after = chargedBy (quotaOf rs x) cost }) (record { number = number; after = quotaOf rs x })))
+      in
       (t ≡ true → eqb number 0 ≡ false) → z ≡ eqb number 0 →
       (v .number ≡ n) × (set rs (placeOf rs x) (v .after) ≡ cond (eqb n 0) (charged rs x cost) rs)
   charged-case true u z h k = rw (h refl) (refl, unfold quotaOf in set-same rs (placeOf rs x))
@@ -174,15 +189,25 @@ module _ (rs : List Quota) (x cost number : ℕ) where
       go zero k = absurd (true≢false (sym k))
       go (suc n) k = eqb·suc-zero n
 
-  charge-is : isListed rs x ≡ true → (verdictOf (quotaOf rs x) cost number .number ≡ chargeNumber rs x cost number) × (set rs (placeOf rs x) (verdictOf (quotaOf rs x) cost number .after) ≡ chargeList rs x cost number)
+  charge-is :
+      isListed rs x ≡ true →
+      (verdictOf (quotaOf rs x) cost number .number ≡ chargeNumber rs x cost number)
+      × (set rs (placeOf rs x) (verdictOf (quotaOf rs x) cost number .after) ≡ chargeList rs x cost number)
   unfolding chargeList chargeNumber verdictOf
   charge-is h = rw h (charged-case (comesFirst number) (ltb (quotaOf rs x .allowance) (quotaOf rs x .spent + cost)) (eqb number 0) first-not-0 refl)
 
-  pub charge-listed : (r : ℕ) (v : Verdict) → r ≡ placeOf rs x → r < length rs → v ≡ verdictOf (getD rs r noRecord) cost number → (v .number ≡ chargeNumber rs x cost number) × (set rs r (v .after) ≡ chargeList rs x cost number)
-  charge-listed r v e l is =
+  listed-is :
+      (r : ℕ) (v : Verdict) → r ≡ placeOf rs x → r < length rs → v ≡ verdictOf (getD rs r noRecord) cost number →
+      (v .number ≡ chargeNumber rs x cost number) × (set rs r (v .after) ≡ chargeList rs x cost number)
+  listed-is r v e l is =
       let h : isListed rs x ≡ true = listed-place rs x (subst (λ k. k < length rs) e l) in
       let w : v ≡ verdictOf (quotaOf rs x) cost number = unfold quotaOf in (is ∙ ap (λ (k : ℕ). verdictOf (getD rs k noRecord) cost number) e) in
       rw (e, w) (charge-is h)
+
+  pub charge-listed :
+      (r : ℕ) (v : Verdict) → r ≡ placeFrom rs x 0 → r < length rs → v ≡ verdictOf (getD rs r noRecord) cost number →
+      (v .number ≡ chargeNumber rs x cost number) × (set rs r (v .after) ≡ chargeList rs x cost number)
+  charge-listed r v e = listed-is r v (e ∙ place-from-0 rs x)
 
   unlisted-case : (t : Bool) → (t ≡ true → eqb number 0 ≡ false) → rs ≡ cond (eqb (cond t number 38) 0) (charged rs x cost) rs
   unlisted-case true h = rw (h refl)
@@ -192,84 +217,10 @@ module _ (rs : List Quota) (x cost number : ℕ) where
   unfolding chargeList chargeNumber unlistedOf
   unlisted-is h = rw h (refl, unlisted-case (comesFirst number) first-not-0)
 
-  pub charge-unlisted : (r m : ℕ) → r ≡ placeOf rs x → length rs ≤ r → m ≡ unlistedOf number → (m ≡ chargeNumber rs x cost number) × (rs ≡ chargeList rs x cost number)
-  charge-unlisted r m e l is = rw is (unlisted-is (unlisted-place rs x (subst (λ k. length rs ≤ k) e l)))
-
--- ---- the fault so far
-
-pub faultTo : List Quota → ℕ → ℕ
-faultTo rs zero = longOf (length rs)
-faultTo rs (suc i) = faultAt (faultTo rs i) (getD rs i noRecord) (placeOf rs (getD rs i noRecord .source)) i
-
-pub fault-start : (rs : List Quota) (m : ℕ) → m ≡ longOf (length rs) → m ≡ faultTo rs 0
-unfolding faultTo
-fault-start rs m e = e
-
-pub fault-next : (rs : List Quota) (i f p m : ℕ) → f ≡ faultTo rs i → p ≡ placeOf rs (getD rs i noRecord .source) → m ≡ faultAt f (getD rs i noRecord) p i → m ≡ faultTo rs (i + 1)
-unfolding faultTo
-fault-next rs i f p m ef ep em = rw (add-one i) (em ∙ ap (λ (y : ℕ). faultAt y (getD rs i noRecord) p i) ef ∙ ap (λ (y : ℕ). faultAt (faultTo rs i) (getD rs i noRecord) y i) ep)
-
--- ---- a well-formed list has no fault
-
-fault-none : (f : ℕ) (r : Quota) (p i : ℕ) → f ≡ 0 → p ≡ i → r .spent ≤ r .allowance → faultAt f r p i ≡ 0
-unfolding faultAt
-fault-none f r p i z e l = rw (eq-eqb p i e, le-ltb (r .allowance) (r .spent) l) z
-
-fault-some : (f : ℕ) (r : Quota) (p i : ℕ) → faultAt f r p i ≡ 0 → (f ≡ 0) × (p ≡ i) × (r .spent ≤ r .allowance)
-unfolding faultAt
-fault-some f r p i = go (eqb p i) (ltb (r .allowance) (r .spent)) refl refl
-  where
-    go : (t u : Bool) → eqb p i ≡ t → ltb (r .allowance) (r .spent) ≡ u → cond t (cond u 37 f) 37 ≡ 0 → (f ≡ 0) × (p ≡ i) × (r .spent ≤ r .allowance)
-    go true true a b e = absurd (omega arith)
-    go true false a b e = (e, eqb-true p i a, ltb-false (r .allowance) (r .spent) b)
-    go false u a b e = absurd (omega arith)
-
--- the fault is 0 or 37
-fault-two : (f : ℕ) (r : Quota) (p i : ℕ) → (f ≡ 0) ⊎ (f ≡ 37) → (faultAt f r p i ≡ 0) ⊎ (faultAt f r p i ≡ 37)
-unfolding faultAt
-fault-two f r p i h = go (eqb p i) (ltb (r .allowance) (r .spent))
-  where
-    go : (t u : Bool) → (cond t (cond u 37 f) 37 ≡ 0) ⊎ (cond t (cond u 37 f) 37 ≡ 37)
-    go true true = inr refl
-    go true false = h
-    go false u = inr refl
-
-long-two : (n : ℕ) → (longOf n ≡ 0) ⊎ (longOf n ≡ 37)
-unfolding longOf
-long-two n = go (ltb 64 n)
-  where
-    go : (t : Bool) → (cond {A = ℕ} t 37 0 ≡ 0) ⊎ (cond {A = ℕ} t 37 0 ≡ 37)
-    go true = inr refl
-    go false = inl refl
-
-to-two : (rs : List Quota) (i : ℕ) → (faultTo rs i ≡ 0) ⊎ (faultTo rs i ≡ 37)
-unfolding faultTo
-to-two rs zero = long-two (length rs)
-to-two rs (suc i) = fault-two (faultTo rs i) (getD rs i noRecord) _ i (to-two rs i)
-
--- each record stands at the place of its source, and is within its allowance
-Sound : List Quota → ℕ → Type 0
-Sound rs i = (placeOf rs (getD rs i noRecord .source) ≡ i) × (getD rs i noRecord .spent ≤ getD rs i noRecord .allowance)
-
-to-none : (rs : List Quota) → longOf (length rs) ≡ 0 → ((i : ℕ) → i < length rs → Sound rs i) → (i : ℕ) → i ≤ length rs → faultTo rs i ≡ 0
-unfolding faultTo Sound
-to-none rs z h zero l = z
-to-none rs z h (suc i) l = fault-none (faultTo rs i) (getD rs i noRecord) _ i (to-none rs z h i (omega arith)) (h i l .0) (h i l .1)
-
-to-some : (rs : List Quota) (n : ℕ) → faultTo rs n ≡ 0 → (longOf (length rs) ≡ 0) × ((i : ℕ) → i < n → Sound rs i)
-unfolding faultTo Sound
-to-some rs zero e = (e, λ i l. absurd (not-suc-le-zero l))
-to-some rs (suc n) e =
-    let a = fault-some (faultTo rs n) (getD rs n noRecord) (placeOf rs (getD rs n noRecord .source)) n e in
-    let b = to-some rs n (a .0) in (
-      b .0,
-      λ i l. by-test (eqb i n) _
-          (λ t. let q = eqb-true i n t in subst (λ k. (placeOf rs (getD rs k noRecord .source) ≡ k) × (getD rs k noRecord .spent ≤ getD rs k noRecord .allowance)) (sym q) (a .1, a .2))
-          (λ t. b .1 i (below i n l t)),
-    )
-  where
-    below : (i n : ℕ) → i < suc n → eqb i n ≡ false → i < n
-    below i n l t = by-test (ltb i n) _ (λ k. ltb-true i n k) (λ k. absurd (true≢false (sym (eq-eqb i n (let m = ltb-false i n k in omega arith)) ∙ t)))
+  pub charge-unlisted :
+      (r m : ℕ) → r ≡ placeFrom rs x 0 → length rs ≤ r → m ≡ unlistedOf number →
+      (m ≡ chargeNumber rs x cost number) × (rs ≡ chargeList rs x cost number)
+  charge-unlisted r m e l is = rw is (unlisted-is (unlisted-place rs x (subst (λ k. length rs ≤ k) (e ∙ place-from-0 rs x) l)))
 
 -- ---- the places of sources that do not repeat
 
@@ -308,7 +259,9 @@ no-repeats (r ∷ rs) h =
     (by-test (isListed rs (r .source)) _
     (λ t.
     let k = found-place rs (r .source) t in
-    let e : placeOf (r ∷ rs) (r .source) ≡ suc (placeOf rs (r .source)) = sym (ap (placeOf (r ∷ rs)) (k .1)) ∙ h (suc (placeOf rs (r .source))) (let l = k .0 in omega arith) in
+    let e : placeOf (r ∷ rs) (r .source) ≡ suc (placeOf rs (r .source)) =
+    sym (ap (placeOf (r ∷ rs)) (k .1)) ∙ h (suc (placeOf rs (r .source))) (let l = k .0 in omega arith)
+    in
     let z : placeOf (r ∷ rs) (r .source) ≡ 0 = place-here r rs (r .source) (eq-eqb (r .source) (r .source) refl) in
     absurd (omega arith))
     (λ t. t))
@@ -329,33 +282,27 @@ all-within (r ∷ rs) h = not-overspent r rs (h 0 (omega arith)) (all-within rs 
 
 -- ---- the check
 
-long-not : (n : ℕ) → longOf n ≡ 0 → ltb maxQuotas n ≡ false
-unfolding longOf maxQuotas
-long-not n e = go (ltb 64 n) e
-  where
-    go : (t : Bool) → cond {A = ℕ} t 37 0 ≡ 0 → t ≡ false
-    go true k = absurd (omega arith)
-    go false k = refl
+-- each record stands at the place of its source, and is within its allowance
+Sound : List Quota → ℕ → Type 0
+Sound rs i = (placeOf rs (getD rs i noRecord .source) ≡ i) × (getD rs i noRecord .spent ≤ getD rs i noRecord .allowance)
 
-not-long : (n : ℕ) → ltb maxQuotas n ≡ false → longOf n ≡ 0
-unfolding longOf maxQuotas
-not-long n e = rw e
+not-malformed : (rs : List Quota) → length rs ≤ 64 → ((i : ℕ) → i < length rs → Sound rs i) → malformedQuotas rs ≡ false
+unfolding malformedQuotas maxQuotas Sound
+not-malformed rs l h = rw (le-ltb 64 (length rs) l, no-repeats rs (λ i k. h i k .0), all-within rs (λ i k. h i k .1))
 
-sound-place : (rs : List Quota) (i : ℕ) → Sound rs i → placeOf rs (getD rs i noRecord .source) ≡ i
-unfolding Sound
-sound-place rs i h = h .0
+-- a fault of one record is one of the list
+unsound : (rs : List Quota) (i : ℕ) → i < length rs → (Sound rs i → ⊥) → malformedQuotas rs ≡ true
+unfolding malformedQuotas Sound
+unsound rs i l h =
+    by-test (malformedQuotas rs) _ (λ t. t)
+    (λ t.
+    let a = neither (ltb maxQuotas (length rs) || repeats rs) (overspent rs) t in
+    let b = neither (ltb maxQuotas (length rs)) (repeats rs) (a .0) in
+    absurd (h (own-place rs i (b .1) l, within-at rs i (a .1) l)))
 
-make-sound : (rs : List Quota) (i : ℕ) → placeOf rs (getD rs i noRecord .source) ≡ i → getD rs i noRecord .spent ≤ getD rs i noRecord .allowance → Sound rs i
-unfolding Sound
-make-sound rs i h k = (h, k)
-
-sound-within : (rs : List Quota) (i : ℕ) → Sound rs i → getD rs i noRecord .spent ≤ getD rs i noRecord .allowance
-unfolding Sound
-sound-within rs i h = h .1
-
-not-malformed : (rs : List Quota) → ltb maxQuotas (length rs) ≡ false → repeats rs ≡ false → overspent rs ≡ false → malformedQuotas rs ≡ false
-unfolding malformedQuotas
-not-malformed rs a b c = rw (a, b, c)
+too-long : (rs : List Quota) → 64 < length rs → malformedQuotas rs ≡ true
+unfolding malformedQuotas maxQuotas
+too-long rs l = rw (lt-ltb 64 (length rs) l)
 
 number-good : (rs : List Quota) → malformedQuotas rs ≡ false → quotasNumber rs ≡ 0
 unfolding quotasNumber
@@ -365,26 +312,147 @@ number-bad : (rs : List Quota) → malformedQuotas rs ≡ true → quotasNumber 
 unfolding quotasNumber
 number-bad rs t = rw t
 
-formed-parts : (rs : List Quota) → malformedQuotas rs ≡ false → ((ltb maxQuotas (length rs) || repeats rs) ≡ false) × (overspent rs ≡ false)
-unfolding malformedQuotas
-formed-parts rs t = neither (ltb maxQuotas (length rs) || repeats rs) (overspent rs) t
+-- the record at i is the first of its source where no record before it has that source
+first-place :
+    (rs : List Quota) (i : ℕ) → i < length rs → ((j : ℕ) → j < i → getD rs j noRecord .source ≡ getD rs i noRecord .source → ⊥) →
+    placeOf rs (getD rs i noRecord .source) ≡ i
+first-place [] i l h = absurd (not-suc-le-zero l)
+first-place (r ∷ rs) zero l h = place-here r rs (r .source) (eq-eqb (r .source) (r .source) refl)
+first-place (r ∷ rs) (suc i) l h =
+    place-later r rs _ (ne-eqb (r .source) (getD rs i noRecord .source) (h 0 (omega arith)))
+    ∙ ap suc (first-place rs i (omega arith) (λ j k. h (suc j) (omega arith)))
 
-check-is : (rs : List Quota) → faultTo rs (length rs) ≡ quotasNumber rs
-check-is rs = by-test (malformedQuotas rs) _ bad good
-  where
-    sound : faultTo rs (length rs) ≡ 0 → malformedQuotas rs ≡ false
-    sound e =
-        let a = to-some rs (length rs) e in
-        not-malformed rs (long-not (length rs) (a .0)) (no-repeats rs (λ i l. sound-place rs i (a .1 i l))) (all-within rs (λ i l. sound-within rs i (a .1 i l)))
+-- the search that starts at the record itself ends there
+own-start : (rs : List Quota) (i : ℕ) → i < length rs → placeFrom rs (getD rs i noRecord .source) i ≡ i
+own-start rs i l =
+    let x = getD rs i noRecord .source in
+    sym (place-hit rs x i _ (place-start rs x i) l (subst T (sym (eq-eqb x x refl)) tt))
 
-    bad : malformedQuotas rs ≡ true → faultTo rs (length rs) ≡ quotasNumber rs
-    bad t = ⊎-elim (λ e. absurd (true≢false (sym t ∙ sound e))) (λ e. e ∙ sym (number-bad rs t)) (to-two rs (length rs))
+-- what a check knows after i records: a fault of the list, or that all of them are sound, and their sources below the bound by more than 1
+record Clean (rs : List Quota) (i bound : ℕ) : Type 0 where
+  some : 0 < bound
+  short : length rs ≤ 64
+  sound : (j : ℕ) → j < i → Sound rs j
+  below : (j : ℕ) → j < i → getD rs j noRecord .source + 1 < bound
 
-    good : malformedQuotas rs ≡ false → faultTo rs (length rs) ≡ quotasNumber rs
-    good t =
-        let a = formed-parts rs t in
-        let b = neither (ltb maxQuotas (length rs)) (repeats rs) (a .0) in
-        to-none rs (not-long (length rs) (b .0)) (λ i l. make-sound rs i (own-place rs i (b .1) l) (within-at rs i (a .1) l)) (length rs) (omega arith) ∙ sym (number-good rs t)
+pub Checked : List Quota → ℕ → ℕ → Type 0
+Checked rs i bound = ((bound ≡ 0) × (malformedQuotas rs ≡ true)) ⊎ Clean rs i bound
 
-pub fault-end : (rs : List Quota) (i f : ℕ) → i ≤ length rs → length rs ≤ i → f ≡ faultTo rs i → f ≡ quotasNumber rs
-fault-end rs i f l g e = e ∙ ap (faultTo rs) (le-antisymm l g) ∙ check-is rs
+pub check-start : (rs : List Quota) (m : ℕ) → m ≡ firstBound (length rs) → Checked rs 0 m
+unfolding firstBound Checked
+check-start rs m e =
+    by-test (ltb 64 (length rs)) _
+    (λ t. inl (e ∙ rw t, too-long rs (ltb-true 64 (length rs) t)))
+    (λ t.
+    let one : m ≡ 1 = e ∙ rw t in
+    inr (record {
+      some = omega arith;
+      short = ltb-false 64 (length rs) t;
+      sound = λ j l. absurd (not-suc-le-zero l);
+      below = λ j l. absurd (not-suc-le-zero l);
+    }))
+
+-- a bound above 0 knows of no fault
+no-fault : (bound : ℕ) → 0 < bound → eqb bound 0 ≡ false
+no-fault bound l = ne-eqb bound 0 (λ q. lt-irrefl 0 (subst (λ k. 0 < k) q l))
+
+-- a known fault stays
+after-fault : (bound : ℕ) (r : Quota) (p i : ℕ) → bound ≡ 0 → boundAfter bound r p i ≡ 0
+unfolding boundAfter
+after-fault bound r p i z = rw (eq-eqb bound 0 z)
+
+-- a new one: the source was found at another place, or spent is above the allowance
+after-other : (bound : ℕ) (r : Quota) (p i : ℕ) → 0 < bound → eqb p i ≡ false → boundAfter bound r p i ≡ 0
+unfolding boundAfter
+after-other bound r p i z e = rw (no-fault bound z, e)
+
+after-over : (bound : ℕ) (r : Quota) (p i : ℕ) → 0 < bound → eqb p i ≡ true → ltb (r .allowance) (r .spent) ≡ true → boundAfter bound r p i ≡ 0
+unfolding boundAfter
+after-over bound r p i z e t = rw (no-fault bound z, e, t)
+
+-- no fault: the bound stays above all, and above the record's source
+after-sound :
+    (bound : ℕ) (r : Quota) (p i : ℕ) → 0 < bound → eqb p i ≡ true → ltb (r .allowance) (r .spent) ≡ false →
+    (bound ≤ boundAfter bound r p i) × (r .source + 1 < boundAfter bound r p i)
+unfolding boundAfter
+after-sound bound r p i z e t =
+    rw (no-fault bound z, e, t)
+    (by-test (ltb bound (r .source + 2)) _
+    (λ k. rw k (let l = ltb-true bound (r .source + 2) k in (omega arith, omega arith)))
+    (λ k. rw k (let l = ltb-false bound (r .source + 2) k in (omega arith, omega arith))))
+
+-- the search starts at 0, or at i where the source is above all before it
+start-two : (bound x i : ℕ) → (startAt bound x i ≡ 0) ⊎ ((startAt bound x i ≡ i) × (bound ≤ x + 1))
+unfolding startAt
+start-two bound x i = by-test (leb bound (x + 1)) _ (λ t. inr (rw t refl, leb-true bound (x + 1) t)) (λ t. inl (rw t refl))
+
+module _ (rs : List Quota) (i bound : ℕ) (l : i < length rs) where
+  abbrev x : ℕ
+  x = getD rs i noRecord .source
+
+  -- so it finds i exactly if the record at i is the first of its source
+  found-first : placeOf rs x ≡ i → placeFrom rs x (startAt bound x i) ≡ i
+  found-first h =
+      ⊎-elim
+      (λ z. ap (placeFrom rs x) z ∙ place-from-0 rs x ∙ h)
+      (λ z. ap (placeFrom rs x) (z .0) ∙ own-start rs i l)
+      (start-two bound x i)
+
+  first-found : ((j : ℕ) → j < i → getD rs j noRecord .source + 1 < bound) → placeFrom rs x (startAt bound x i) ≡ i → placeOf rs x ≡ i
+  first-found below h =
+      ⊎-elim
+      (λ z. sym (place-from-0 rs x) ∙ sym (ap (placeFrom rs x) z) ∙ h)
+      (λ z. first-place rs i l (λ j k q. let b = below j k in let g = z .1 in absurd (omega arith)))
+      (start-two bound x i)
+
+-- what holds below i, and at i
+one-more : {P : ℕ → Type 0} (i : ℕ) → ((j : ℕ) → j < i → P j) → P i → (j : ℕ) → j < i + 1 → P j
+one-more {P = P} i h e j l =
+    by-test (eqb j i) _
+    (λ t. subst P (sym (eqb-true j i t)) e)
+    (λ t. h j (by-test (ltb j i) _ (ltb-true j i) (λ k. absurd (true≢false (sym (eq-eqb j i (let m = ltb-false j i k in omega arith)) ∙ t)))))
+
+pub check-next :
+    (rs : List Quota) (i bound start p m : ℕ) → i < length rs → Checked rs i bound → start ≡ startAt bound (getD rs i noRecord .source) i →
+    p ≡ placeFrom rs (getD rs i noRecord .source) start → m ≡ boundAfter bound (getD rs i noRecord) p i → Checked rs (i + 1) m
+unfolding Checked Sound
+check-next rs i bound start p m l h es ep em =
+    let r = getD rs i noRecord in
+    let found : p ≡ placeFrom rs (r .source) (startAt bound (r .source) i) = ep ∙ ap (placeFrom rs (r .source)) es in
+    ⊎-elim
+    (λ f. inl (em ∙ after-fault bound r p i (f .0), f .1))
+    (λ c.
+    by-test (eqb p i) _
+    (λ here.
+    by-test (ltb (r .allowance) (r .spent)) _
+    (λ over. inl (
+      em ∙ after-over bound r p i (c .some) here over,
+      unsound rs i l (λ w. let k = w .1 in let g = ltb-true (r .allowance) (r .spent) over in absurd (omega arith)),
+    ))
+    (λ within.
+    let kept = after-sound bound r p i (c .some) here within in
+    let grows : bound ≤ m = subst (λ k. bound ≤ k) (sym em) (kept .0) in
+    let own : r .source + 1 < m = subst (λ k. r .source + 1 < k) (sym em) (kept .1) in
+    let place = first-found rs i bound l (c .below) (sym found ∙ eqb-true p i here) in
+    inr (record {
+      some = lt-of-lt-of-le (c .some) grows;
+      short = c .short;
+      sound = one-more i (c .sound) (place, ltb-false (r .allowance) (r .spent) within);
+      below = one-more i (λ j k. lt-of-lt-of-le (c .below j k) grows) own;
+    })))
+    (λ other. inl (
+      em ∙ after-other bound r p i (c .some) other,
+      unsound rs i l (λ w. true≢false (sym (eq-eqb p i (found ∙ found-first rs i bound l (w .0))) ∙ other)),
+    )))
+    h
+
+pub check-end :
+    (rs : List Quota) (i bound m : ℕ) → length rs ≤ i → Checked rs i bound → m ≡ faultOf bound → m ≡ quotasNumber rs
+unfolding faultOf Checked
+check-end rs i bound m l h e =
+    ⊎-elim
+    (λ f. e ∙ rw (eq-eqb bound 0 (f .0)) (sym (number-bad rs (f .1))))
+    (λ c.
+    let z : eqb bound 0 ≡ false = no-fault bound (c .some) in
+    e ∙ rw z (sym (number-good rs (not-malformed rs (c .short) (λ j k. c .sound j (lt-of-lt-of-le k l))))))
+    h

@@ -40,10 +40,22 @@ verdictOf r cost number =
 unfoldable pub unlistedOf : ℕ → ℕ
 unlistedOf number = cond (comesFirst number) number 38
 
--- 37 for more than 64 records
-unfoldable pub longOf : ℕ → ℕ
-longOf n = cond (ltb 64 n) 37 0
+-- ---- a check of the list: its bound is 0 once a fault is found, else 1 more than the least source above all so far
 
--- 37 where the record at i is not the first of its source, or spent is above its allowance, else the fault so far
-unfoldable pub faultAt : ℕ → Quota → ℕ → ℕ → ℕ
-faultAt fault r place i = cond (eqb place i) (cond (ltb (r .allowance) (r .spent)) 37 fault) 37
+-- before the first record: 0 for more than 64 records
+unfoldable pub firstBound : ℕ → ℕ
+firstBound n = cond (ltb 64 n) 0 1
+
+-- where the search for the source of the record at i starts: no record before i has a source above all so far
+unfoldable pub startAt : ℕ → ℕ → ℕ → ℕ
+startAt bound x i = cond (leb bound (x + 1)) i 0
+
+-- after the record at i: 0 where a fault is known, where its source was found at another place, or where spent is above its allowance
+unfoldable pub boundAfter : ℕ → Quota → ℕ → ℕ → ℕ
+boundAfter bound r place i =
+    cond (eqb bound 0) 0
+    (cond (eqb place i) (cond (ltb (r .allowance) (r .spent)) 0 (cond (ltb bound (r .source + 2)) (r .source + 2) bound)) 0)
+
+-- the list's number at the end
+unfoldable pub faultOf : ℕ → ℕ
+faultOf bound = cond (eqb bound 0) 37 0

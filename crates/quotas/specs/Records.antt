@@ -4,7 +4,7 @@ use mathlib.Core.Bool.{Bool, false, cond, not, _||_}
 use mathlib.Core.List.{List, [], _∷_, map}
 use Prim.Native.Nat.{ℕ, suc, _+_}
 use lib.Dec.{eqb, ltb}
-use lib.ListN.{length, getD}
+use lib.ListN.{length, getD, drop}
 use Rattle.laws.specs.Refusals.{refuse}
 use Rattle.quotas.specs.declared.Quota.{Quota}
 
@@ -20,6 +20,10 @@ maxQuotas = 64
 unfoldable pub placeOf : List Quota → ℕ → ℕ
 placeOf [] x = 0
 placeOf (r ∷ rs) x = cond (eqb (r .source) x) 0 (suc (placeOf rs x))
+
+-- the same, searched for from a place on: that place itself where it is past the end
+unfoldable pub placeFrom : List Quota → ℕ → ℕ → ℕ
+placeFrom rs x start = start + placeOf (drop start rs) x
 
 -- whether a source has a record, and that record
 unfoldable pub isListed : List Quota → ℕ → Bool

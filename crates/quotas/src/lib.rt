@@ -1,8 +1,9 @@
 // A lent list of quotas (02 (x)): for each source its allowance in bytes and the bytes spent.
 ghost use mathlib.Core.Path.{_≡_};
 ghost use Prim.Native.Nat.{_<_, _+_, _^_};
-ghost use Rattle.quotas.specs.Records.{placeOf, quotasNumber, chargedBy, unspent, cleared};
-ghost use Rattle.quotas.specs.Charges.{comesFirst, verdictOf, unlistedOf, chargeNumber, chargeList, longOf, faultAt, clearedAfter};
+ghost use Rattle.quotas.specs.Records.{placeFrom, quotasNumber, chargedBy, unspent, cleared};
+ghost use Rattle.quotas.specs.Charges.{comesFirst, verdictOf, unlistedOf, chargeNumber, chargeList, clearedAfter};
+ghost use Rattle.quotas.specs.Charges.{firstBound, startAt, boundAfter, faultOf};
 
 #[repr(C)]
 pub struct Quota {
@@ -11,11 +12,11 @@ pub struct Quota {
     pub spent: u32,
 }
 
-// The place of a source's first record, or the number of records where it has none.
-pub fn find(list: &[Quota], source: u32) -> usize
-    ensures { λ r. ⌜ r ≡ placeOf (now (list .entry)) source ⌝ }
+// The place of a source's first record at or after `from`. Where it has none there: the number of records, or `from` if that is more.
+pub fn find(list: &[Quota], source: u32, from: usize) -> usize
+    ensures { λ r. ⌜ r ≡ placeFrom (now (list .entry)) source from ⌝ }
 {
-    let mut i = 0;
+    let mut i = from;
     while i < list.len() {
         let r = list[i];
         if r.source == source {
@@ -137,7 +138,7 @@ pub fn charge(list: &mut [Quota], source: u32, cost: u32, number: u32) -> u32
     ensures { λ r. ⌜ (r ≡ chargeNumber (now (list .entry)) source cost number)
         × (now (list .exit) ≡ chargeList (now (list .entry)) source cost number) ⌝ }
 {
-    let i = find(list, source);
+    let i = find(list, source, 0);
     if i < list.len() {
         let v = judge(list[i], cost, number);
         list[i] = v.after;
@@ -146,39 +147,65 @@ pub fn charge(list: &mut [Quota], source: u32, cost: u32, number: u32) -> u32
     unlisted(number)
 }
 
-// 37 where there are more than 64 records, else 0.
-fn fault_long(n: usize) -> u32
-    ensures { λ r. ⌜ r ≡ longOf n ⌝ }
+// A check keeps one number as it goes along the list, the bound: 0 once a fault is found, else 1 more than the least source that is
+// above all sources so far. A source above all before it is new: it needs no search among them.
+
+// The bound before the first record: 0 where there are more than 64.
+fn first_bound(n: usize) -> u64
+    ensures { λ r. ⌜ r ≡ firstBound n ⌝ }
 {
-    if 64 < n { 37 } else { 0 }
+    if 64 < n { 0 } else { 1 }
 }
 
-// The fault so far, or 37 where the record at i is not the first of its source, or has spent above its allowance.
-fn fault_at(fault: u32, r: Quota, place: usize, i: usize) -> u32
-    ensures { λ x. ⌜ x ≡ faultAt fault r place i ⌝ }
+// Where the search for the source of the record at i starts: at i where the source is above all before it, or a fault is known, else at 0.
+fn start_at(bound: u64, source: u32, i: usize) -> usize
+    ensures { λ r. ⌜ r ≡ startAt bound source i ⌝ }
 {
+    if bound <= source as u64 + 1 { i } else { 0 }
+}
+
+// The bound after the record at i, whose source was found at `place`: 0 where a fault is known, where the source stands before i too,
+// or where spent is above the allowance.
+fn bound_after(bound: u64, r: Quota, place: usize, i: usize) -> u64
+    ensures { λ x. ⌜ x ≡ boundAfter bound r place i ⌝ }
+{
+    let source = r.source;
     let allowance = r.allowance;
     let spent = r.spent;
+    if bound == 0 {
+        return 0;
+    }
     if place != i {
-        return 37;
+        return 0;
     }
     if allowance < spent {
-        return 37;
+        return 0;
     }
-    fault
+    // 1 more than the least source above this one
+    let above = source as u64 + 2;
+    if bound < above { above } else { bound }
+}
+
+// The number of a list whose check ended with the bound.
+fn fault_of(bound: u64) -> u32
+    ensures { λ r. ⌜ r ≡ faultOf bound ⌝ }
+{
+    if bound == 0 { 37 } else { 0 }
 }
 
 // 37 where the list is too long, has a source twice or a record that spent above its allowance, else 0.
+// One pass where the sources rise; else each source that is not above all before it is searched for from the start.
 pub fn check(list: &[Quota]) -> u32
     ensures { λ r. ⌜ r ≡ quotasNumber (now (list .entry)) ⌝ }
 {
-    let mut fault = fault_long(list.len());
+    let mut bound = first_bound(list.len());
     let mut i = 0;
     while i < list.len() {
         let r = list[i];
-        let place = find(list, r.source);
-        fault = fault_at(fault, r, place, i);
+        let from = start_at(bound, r.source, i);
+        let place = find(list, r.source, from);
+        bound = bound_after(bound, r, place, i);
         i += 1;
     }
-    fault
+    fault_of(bound)
 }

@@ -42,7 +42,7 @@ use denote.Triple.Spec.{Meets, tripleOf}
 use denote.Triple.Table.{entered, cited}
 use denote.Triple.Walked.{says, Stays, stay-none, stay-slice, walkOf, goes-none, goes-slice, Walks, ends-at, walked, walk-meets}
 use denote.Exit.{yes}
-use Rattle.quotas.specs.Records.{noRecord, placeOf}
+use Rattle.quotas.specs.Records.{noRecord, placeFrom}
 use Rattle.quotas.specs.Charges.{verdictOf, unlistedOf, chargeNumber, chargeList}
 use Rattle.quotas.proofs.Walks.{charge-listed, charge-unlisted}
 use Rattle.quotas.specs.declared.Quota.{Quota}
@@ -51,7 +51,7 @@ use Rattle.quotas.proofs.Quota.Laws as T′
 use types.Tokens.{lft-new, lft-end, lent-back}
 use types.Share.{arr-parts}
 use denote.Memory.{pointee, shares}
-use lib.Dec.{ltb→lt, nltb→le}
+use lib.Dec.{ltb→lt, nltb→le, lit<}
 use Rattle.quotas.specs.declared.Verdict.{Verdict}
 use Rattle.quotas.proofs.Verdict as O
 use Rattle.quotas.proofs.Verdict.Laws as O′
@@ -120,15 +120,15 @@ module _ {M : Type 1} (𝓤 : URA M) (H : Heap 𝓤) (A : Atoms 𝓤) (W : Given
 
   -- the calls: what each binds outside, what it asks, and what is known of its result
   abbrev to-find : ℕ → GName → Find 𝓤 H A mem run .Ghost
-  to-find ν δ = (((ν ∷ [], tt), (fullShare, tt), tt, (s δ ys, (x, tt)), (v ∷ [], (vint w32 x ∷ [], tt))), tt)
+  to-find ν δ = (((ν ∷ [], tt), (fullShare, tt), tt, (s δ ys, (x, (0, tt))), (v ∷ [], (vint w32 x ∷ [], (vint w64 0 ∷ [], tt)))), tt)
 
   goes-find : (ν : ℕ) (δ : GName) → ent 𝓤 (sep 𝓤 (A .lft (ν ∷ []) fullShare) (sem 𝓤 H A (ShrSlice (named 0) (ν ∷ []) T.the-row .own (s δ ys) (v ∷ [])))) (Find 𝓤 H A mem run .pre (to-find ν δ))
   goes-find ν δ =
-      qed W (‵ (flft (ν ∷ []) fullShare) ∷ ‵ (ShrSlice (named 0) (ν ∷ []) T.the-row .own (s δ ys) (v ∷ [])) ∷ []) ∵ nothing ! $ owned ! u32 (Is u32) (uint-makes 𝓤 H A W w32) x _ (refl, x-fits) $ fjoin ! $ move ! (2 ∷ 0 ∷ []) $ fjoin ! $
+      qed W (‵ (flft (ν ∷ []) fullShare) ∷ ‵ (ShrSlice (named 0) (ν ∷ []) T.the-row .own (s δ ys) (v ∷ [])) ∷ []) ∵ nothing ! $ owned ! usize (Is usize) (uint-makes 𝓤 H A W w64) 0 _ (refl, lit< tt) $ fjoin ! $ owned ! u32 (Is u32) (uint-makes 𝓤 H A W w32) x _ (refl, x-fits) $ fjoin ! $ move ! (2 ∷ 0 ∷ []) $ fjoin ! $
       nothing ! $ move ! (2 ∷ 0 ∷ []) $ join ! $ join ! $ frame ! $ done !
 
-  find-said : (ν : ℕ) (δ : GName) (r : ℕ) → ent 𝓤 (ensured 𝓤 H A find.ended (find.clauses 𝓤 H A mem run) (ν ∷ [], tt) (s δ ys, (x, tt)) tt r) (fact 𝓤 (r ≡ placeOf ys x))
-  find-said ν δ r = exE 𝓤 _ (λ ws. snd∗ 𝓤 (sem 𝓤 H A (lasts find.ended (ν ∷ [], tt) (s δ ys, (x, tt)) ws)) (fact 𝓤 (r ≡ placeOf ys x)))
+  find-said : (ν : ℕ) (δ : GName) (r : ℕ) → ent 𝓤 (ensured 𝓤 H A find.ended (find.clauses 𝓤 H A mem run) (ν ∷ [], tt) (s δ ys, (x, (0, tt))) tt r) (fact 𝓤 (r ≡ placeFrom ys x 0))
+  find-said ν δ r = exE 𝓤 _ (λ ws. snd∗ 𝓤 (sem 𝓤 H A (lasts find.ended (ν ∷ [], tt) (s δ ys, (x, (0, tt))) ws)) (fact 𝓤 (r ≡ placeFrom ys x 0)))
 
   abbrev to-judge : Quota → Judge 𝓤 H A mem run .Ghost
   to-judge a = ((tt, tt, tt, (a, (c, (m, tt))), (LL.vals T.the-type T′.the-laws a, (vint w32 c ∷ [], (vint w32 m ∷ [], tt)))), tt)
@@ -176,8 +176,8 @@ module _ {M : Type 1} (𝓤 : URA M) (H : Heap 𝓤) (A : Atoms 𝓤) (W : Given
         -- the row is lent as a `&` for a lifetime ν of the call of `find`, and comes back
         lft-new ! tt (λ ν. move ! (1 ∷ []) $ feqI ! ℕ (length ys) (length ys) refl $ fjoin ! $ use1 W (later (some (λ (δ : GName). ‵ (ShrSlice (named 0) (ν ∷ []) T.the-row .own (s δ ys) (v ∷ [])) ⊛ ‵ (flent (ν ∷ []) Arr)))) (lends-shr-slice 𝓤 H A W T.the-row (named 0) (ν ∷ []) fullShare ys b o room) $ await ! tt $ pick ! (λ δ. split ! $
         move ! (2 ∷ 0 ∷ []) $ use2 W (raw (Find 𝓤 H A mem run .pre (to-find ν δ))) (goes-find ν δ) $
-        calls-at ! fm (Find 𝓤 H A mem run) known-find (to-find ν δ) (and-then ! (load ! (from ! (stop !)) (look ! 19 refl)) (and-then ! (load ! (from ! (stop !)) (look ! 31 refl)) (no-more !))) (λ u. use1 W (later (some (λ (r : ℕ). ((‵ (flft (ν ∷ []) fullShare) ⊛ ‵ ftrue) ⊛ ‵ (usize .own r (u ∷ []))) ⊛ raw (ensured 𝓤 H A find.ended (find.clauses 𝓤 H A mem run) (ν ∷ [], tt) (s δ ys, (x, tt)) tt r)))) (id⊢ 𝓤 _) $ await ! tt $ pick ! (λ r. split ! $
-        move ! (1 ∷ 0 ∷ []) $ use1 W (raw (fact 𝓤 (r ≡ placeOf ys x))) (find-said ν δ r) $ heard ! (r ≡ placeOf ys x) (λ e₁. split ! $
+        calls-at ! fm (Find 𝓤 H A mem run) known-find (to-find ν δ) (and-then ! (load ! (from ! (stop !)) (look ! 19 refl)) (and-then ! (load ! (from ! (stop !)) (look ! 31 refl)) (and-then ! (lit ! tt) (no-more !)))) (λ u. use1 W (later (some (λ (r : ℕ). ((‵ (flft (ν ∷ []) fullShare) ⊛ ‵ ftrue) ⊛ ‵ (usize .own r (u ∷ []))) ⊛ raw (ensured 𝓤 H A find.ended (find.clauses 𝓤 H A mem run) (ν ∷ [], tt) (s δ ys, (x, (0, tt))) tt r)))) (id⊢ 𝓤 _) $ await ! tt $ pick ! (λ r. split ! $
+        move ! (1 ∷ 0 ∷ []) $ use1 W (raw (fact 𝓤 (r ≡ placeFrom ys x 0))) (find-said ν δ r) $ heard ! (r ≡ placeFrom ys x 0) (λ e₁. split ! $
         move ! (1 ∷ 0 ∷ []) $ facts ! usize (Is usize) (shows 𝓤 H A usize) r (u ∷ []) (λ is₁. split ! $
         land ! (from ! (stop !)) (init ! 26 refl (uint-lawful 𝓤 H A W w64 .typed r _ is₁ .0)) $
         rewrite ! 26 (λ (z : Val). ‵ (fat fullShare (tyInt w64) l₅ 0 z)) (ap only (is₁ .0)) refl $
