@@ -16,7 +16,7 @@ pub struct FortunaDraw {
     pub value: u64,
 }
 
-fn draw_of(d: Draw) -> FortunaDraw
+pub(crate) fn draw_of(d: Draw) -> FortunaDraw
     ensures { λ r. ⌜ (r .number ≡ number (d .answer)) × (r .emptied ≡ d .emptied) × (r .value ≡ d .value) ⌝ }
 {
     let answer = d.answer;

@@ -18,14 +18,14 @@ pub struct FortunaAnswer {
     pub emptied: u32,
 }
 
-fn number_of(gain: Gain) -> u32
+pub(crate) fn number_of(gain: Gain) -> u32
     ensures { λ r. ⌜ r ≡ number (gain .answer) ⌝ }
 {
     let answer = gain.answer;
     answer.number()
 }
 
-fn put_pool(state: &mut Fortuna, place: usize, pool: Hasher)
+pub(crate) fn put_pool(state: &mut Fortuna, place: usize, pool: Hasher)
     requires { ⌜ place < 32 ⌝ }
     ensures { λ _. ⌜ now (state .exit) ≡ withPool (now (state .entry)) place pool ⌝ }
 {

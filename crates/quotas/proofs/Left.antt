@@ -69,7 +69,7 @@ cleared-each : (rs : List Quota) → cleared rs ≡ map unspent rs
 unfolding cleared
 cleared-each rs = refl
 
-passed-alone : (rs : List Quota) → malformedQuotas rs ≡ false → repeats rs ≡ false
+pub passed-alone : (rs : List Quota) → malformedQuotas rs ≡ false → repeats rs ≡ false
 unfolding malformedQuotas
 passed-alone rs h = neither (ltb maxQuotas (length rs)) (repeats rs) (neither (ltb maxQuotas (length rs) || repeats rs) (overspent rs) h .0) .1
 
