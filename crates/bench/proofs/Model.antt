@@ -1,6 +1,6 @@
 -- What a log prints is what the reference model prints.
 -- Assumes nothing.
-use mathlib.Core.Path.{_≡_, refl, ap, _∙_}
+use mathlib.Core.Path.{_≡_, refl, sym, ap, _∙_}
 use mathlib.Core.List.{List, [], _∷_, _++_, map}
 use mathlib.Core.Option.{Option, none, some}
 use Prim.Native.Nat.{ℕ, suc}
@@ -8,11 +8,12 @@ use Rattle.pools.specs.State.{fresh}
 use Rattle.pools.specs.Calls.{Call, Outcome, step, runFrom, run}
 use Rattle.pools.specs.declared.Fortuna.{Fortuna}
 use Rattle.reference.specs.Reference.{Reference, referenceRun}
+use Rattle.reference.proofs.AsBefore.{run-as-before}
 use Rattle.reference.specs.Agreement.{concreteOutcome}
 use Rattle.reference.proofs.Correct.{run-correct}
 use Rattle.bench.specs.Lines.{lineCall, noFrame, numberLine, outcomeLine, executed, lineOf}
 use Rattle.bench.specs.Input.{lines, printedFrom, transcript}
-use Rattle.bench.specs.Model.{lineCalls, made, answers, modelTranscript}
+use Rattle.bench.specs.Model.{lineCalls, made, answers, logCalls, modelTranscript}
 use Rattle.bench.specs.Statements.{ModelLaw}
 
 -- the state in an outcome is not printed
@@ -35,9 +36,9 @@ printed-run (text ∷ texts) place s = go (lineCall text) (printed-run texts)
     go (some c) rest = ap (λ (l : List ℕ). outcomeLine c (step s c) ++ l) (rest (suc place) (step s c .effect .next))
 
 pub model-law : ModelLaw
-unfolding transcript modelTranscript lineCalls run
+unfolding transcript modelTranscript logCalls lineCalls run
 model-law input =
     let calls = lineCalls input in
     printed-run (lines input) 0 fresh
-    ∙ ap (answers calls) (run-correct (made calls) .agreement .outcomes)
-    ∙ answers-concrete calls (referenceRun (made calls))
+    ∙ ap (answers calls) (sym (run-as-before (made calls)) ∙ run-correct (logCalls input) .agreement .outcomes)
+    ∙ answers-concrete calls (referenceRun (logCalls input))

@@ -4,6 +4,7 @@ use mathlib.Core.List.{List, [], _∷_, _++_, map}
 use mathlib.Core.Option.{Option, none, some}
 use Prim.Native.Nat.{ℕ}
 use Rattle.pools.specs.Calls.{Call, Outcome}
+use Rattle.quotas.specs.Entries.{Entry, without, taking}
 use Rattle.reference.specs.Reference.{referenceRun}
 use Rattle.bench.specs.Lines.{lineCall, noFrame, numberLine, outcomeLine}
 use Rattle.bench.specs.Input.{lines}
@@ -25,6 +26,10 @@ answers (none ∷ rest) outcomes = numberLine noFrame ++ answers rest outcomes
 answers (some c ∷ rest) [] = []
 answers (some c ∷ rest) (o ∷ outcomes) = outcomeLine c o ++ answers rest outcomes
 
+-- a log's calls, none of which takes a list of quotas
+unfoldable pub logCalls : List ℕ → List Entry
+logCalls input = map (taking without) (made (lineCalls input))
+
 -- what a whole input prints, from the model's run
 unfoldable pub modelTranscript : List ℕ → List ℕ
-modelTranscript input = answers (lineCalls input) (referenceRun (made (lineCalls input)))
+modelTranscript input = answers (lineCalls input) (referenceRun (logCalls input))

@@ -33,14 +33,18 @@ blank-is : (seed : List ℕ) → blank seed ≡ true → seed ≡ replicate 64 (
 unfolding blank seedSize
 blank-is seed h = sameList-equal seed (replicate 64 (getD seed 0 0)) h
 
-not-blank : (seed : List ℕ) → ((b : ℕ) → seed ≢ replicate 64 b) → blank seed ≡ false
+pub not-blank : (seed : List ℕ) → ((b : ℕ) → seed ≢ replicate 64 b) → blank seed ≡ false
 not-blank seed h = by-test (blank seed) (blank seed ≡ false) (λ t. absurd (h (getD seed 0 0) (blank-is seed t))) (λ t. t)
 
 -- ---- the number of an update
 
+pub page-input : (b : ℕ) → updateInput (replicate 64 b) ≡ 36
+unfolding updateInput seedInput seedSize andThen
+page-input b = rw (blank-page b)
+
 page-number : (m : Bool) (c : ℕ) (d : Bool) (b : ℕ) → updateNumber m c d (replicate 64 b) ≡ 36
-unfolding updateNumber updateInput seedInput seedSize andThen
-page-number m c d b = rw (blank-page b)
+unfolding updateNumber andThen
+page-number m c d b = rw (page-input b)
 
 other-number : (m : Bool) (c : ℕ) (d : Bool) (seed : List ℕ) → blank seed ≡ false
     → updateNumber m c d seed ≡ andThen (seedInput seed) (updateState m c d)
@@ -62,7 +66,7 @@ other-not-by-36 m c d seed = not-by-36 (not (eqb (length seed) seedSize)) m (spe
 -- ---- which calls 36 refuses
 
 -- 36 comes of the check, not of the tries
-from-check : (n : ℕ) (found : Bool) → andThen n (cond found 0 33) ≡ 36 → n ≡ 36
+pub from-check : (n : ℕ) (found : Bool) → andThen n (cond found 0 33) ≡ 36 → n ≡ 36
 unfolding andThen
 from-check zero true e = absurd (omega (arith, e))
 from-check zero false e = absurd (omega (arith, e))

@@ -14,7 +14,9 @@ use Rattle.pools.specs.Events.{eventBytes}
 use Rattle.pools.specs.Schedule.{usedPools}
 use Rattle.pools.specs.Effects.{Effect, unchanged}
 use Rattle.pools.specs.Draws.{tries, shuffled}
-use Rattle.pools.specs.Calls.{Call, event, request, update, write, draw, shuffle, readingOf, effectOf, outcome, run, runFrom, stateFrom}
+use Rattle.pools.specs.Calls.{Call, event, request, update, write, draw, shuffle, readingOf, effectOf, outcome, runFrom, stateFrom}
+use Rattle.quotas.specs.Entries.{Entry}
+use Rattle.reference.specs.Runs.{run}
 use Rattle.pools.proofs.EachTry.{idle-shuffle}
 use Rattle.reference.specs.Reference.{Reference, empty, dueAt, appendEvent, referenceCount, referenceRequest, referenceTry, referenceEffect, referenceStep, referenceRun, referenceAfter}
 use Rattle.reference.specs.Agreement.{concreteOutcome}
@@ -116,15 +118,15 @@ outcome-reseeds (suc n) buffer b done h = rw (eqb·suc-zero n) (omega arith)
 
 -- R grows by 1 exactly at the calls that empty a pool
 pub step-reseeds :
-    (place : ℕ) (b : Reference) (c : Call) →
+    (place : ℕ) (b : Reference) (c : Entry) →
     referenceStep place b c .effect .next .reseeds ≡ b .reseeds + cond (ltb 0 (referenceStep place b c .effect .emptied)) 1 0
 unfolding referenceStep outcome
-step-reseeds place b c = outcome-reseeds _ _ b _ (rw (effect-emptied place b c) (effect-reseeds place b c))
+step-reseeds place b c = outcome-reseeds _ _ b _ (rw (effect-emptied place b (c .call)) (effect-reseeds place b (c .call)))
 
 -- ---- R is the number of calls that emptied a pool
 
 run-reseeds :
-    (calls : List Call) (place : ℕ) (b : Reference) →
+    (calls : List Entry) (place : ℕ) (b : Reference) →
     b .reseeds + poolReseeds (map concreteOutcome (runFrom referenceStep place b calls)) ≡ stateFrom referenceStep place b calls .reseeds
 unfolding runFrom stateFrom poolReseeds concreteOutcome
 run-reseeds [] place b = omega arith
@@ -132,6 +134,6 @@ run-reseeds (c ∷ calls) place b =
     omega (arith, step-reseeds place b c, run-reseeds calls (suc place) (referenceStep place b c .effect .next))
 
 pub reseeds-after :
-    (calls : List Call) → run calls ≡ map concreteOutcome (referenceRun calls) → reseedsAfter calls ≡ referenceAfter calls .reseeds
+    (calls : List Entry) → run calls ≡ map concreteOutcome (referenceRun calls) → reseedsAfter calls ≡ referenceAfter calls .reseeds
 unfolding reseedsAfter referenceRun referenceAfter empty
 reseeds-after calls e = ap poolReseeds e ∙ omega (arith, run-reseeds calls 0 empty)

@@ -22,12 +22,17 @@ use Rattle.pools.specs.State.{fresh, counterOf, malformed, due}
 use Rattle.pools.specs.Refusals.{andThen, seedSize, maxTries, requestNumber, updateNumber, writeNumber, drawNumber, shuffleNumber}
 use Rattle.pools.specs.Effects.{Effect, unchanged, writeSeed}
 use Rattle.pools.specs.Draws.{Drawn, tries, shuffled, tryAt}
-use Rattle.pools.specs.Calls.{Call, event, request, update, write, draw, shuffle, inputBuffer, callNumber, callEffect, callFound, callValue, Outcome, effectOf, outcome, step, runFrom, stateFrom, run, stateAfter}
-use Rattle.reference.specs.Reference.{Reference, empty, poolContents, dueAt, referenceTry, referenceNumber, referenceEffect, referenceFound, referenceValue, referenceStep, referenceRun, referenceAfter}
+use Rattle.pools.specs.Calls.{Call, event, request, update, write, draw, shuffle, inputBuffer, inputNumber, callNumber, callEffect, callFound, callValue, Outcome, effectOf, outcome, runFrom, stateFrom}
+use Rattle.pools.proofs.Chains.{then-cong, both-passed}
+use Rattle.quotas.specs.Entries.{Quotas, Entry, entryNumber, entryStep}
+use Rattle.quotas.proofs.Entries.{entry-number}
+use Rattle.reference.specs.Runs.{run, stateAfter, listsLeft}
+use Rattle.reference.specs.ReferenceLists.{byRecords, recordAfter, listAfter, listsAfter}
+use Rattle.reference.proofs.ListReadings.{by-records, lists-left}
+use Rattle.reference.specs.Reference.{Reference, empty, poolContents, dueAt, referenceTry, referenceNumber, referenceEntryNumber, referenceEffect, referenceFound, referenceValue, referenceStep, referenceRun, referenceAfter}
 use Rattle.reference.specs.Agreement.{concrete, concreteOutcome, RunIsSteps, Agrees}
 use Rattle.reference.proofs.Invariant.{Sound, sound-empty, sound-event, empty-contents}
 use Rattle.reference.proofs.Concrete.{size-concrete, counter-concrete, due-concrete, malformed-concrete}
-use Rattle.pools.proofs.Chains.{then-cong}
 use Rattle.pools.proofs.Acceptance.{not-spent, event-passed, event-room, event-size, request-room, write-room, update-room, draw-passed, shuffle-passed}
 use Rattle.pools.proofs.Gains.{length-event}
 use Rattle.pools.proofs.EachTry.{idle-shuffle}
@@ -151,47 +156,66 @@ module _ (b : Reference) (buffer : List ℕ) (n m : ℕ) (e : n ≡ m) where
     effect = effect-concrete x y h i;
   }
 
-pub step-agrees : (place : ℕ) (b : Reference) → Sound b → (c : Call) → step (concrete b) c ≡ concreteOutcome (referenceStep place b c)
-unfolding step referenceStep
-step-agrees place b s c =
-    outcome-concrete b (inputBuffer c) _ _ (number-agrees b s c) _ _ _ _ _ _ (found-agrees b s c) (value-agrees b s c) (effect-agrees b s place c)
+-- with the list that a call takes, or without one
+pub entry-agrees : (b : Reference) → Sound b → (e : Entry) → entryNumber (concrete b) e ≡ referenceEntryNumber b e
+unfolding referenceEntryNumber
+entry-agrees b s e =
+    let c = e .call in
+    entry-number (concrete b) e
+    ∙ ap₂ (λ (l n : ℕ). andThen (inputNumber c) (andThen l n)) (sym (by-records (e .quotas) c)) (number-agrees b s c)
 
-pub step-sound : (place : ℕ) (b : Reference) → Sound b → (c : Call) → Sound (referenceStep place b c .effect .next)
+-- an accepted call is accepted by its own numbers too
+pub own-accepted : (b : Reference) (e : Entry) → referenceEntryNumber b e ≡ 0 → referenceNumber b (e .call) ≡ 0
+unfolding referenceEntryNumber
+own-accepted b e z =
+    let c = e .call in
+    both-passed (byRecords (e .quotas) c) (referenceNumber b c) (both-passed (inputNumber c) _ z .1) .1
+
+pub step-agrees : (place : ℕ) (b : Reference) → Sound b → (e : Entry) → entryStep (concrete b) e ≡ concreteOutcome (referenceStep place b e)
+unfolding entryStep referenceStep
+step-agrees place b s e =
+    let c = e .call in
+    outcome-concrete b (inputBuffer c) _ _ (entry-agrees b s e) _ _ _ _ _ _
+    (λ z. found-agrees b s c (own-accepted b e z))
+    (λ z. value-agrees b s c (own-accepted b e z))
+    (λ z. effect-agrees b s place c (own-accepted b e z))
+
+pub step-sound : (place : ℕ) (b : Reference) → Sound b → (e : Entry) → Sound (referenceStep place b e .effect .next)
 unfolding referenceStep outcome
-step-sound place b s c = outcome-keeps Sound _ (inputBuffer c) b _ s (effect-sound b s place c)
+step-sound place b s e = outcome-keeps Sound _ (inputBuffer (e .call)) b _ s (λ z. effect-sound b s place (e .call) (own-accepted b e z))
 
-pub next-agrees : (place : ℕ) (b : Reference) → Sound b → (c : Call)
-    → step (concrete b) c .effect .next ≡ concrete (referenceStep place b c .effect .next)
+pub next-agrees : (place : ℕ) (b : Reference) → Sound b → (c : Entry)
+    → entryStep (concrete b) c .effect .next ≡ concrete (referenceStep place b c .effect .next)
 unfolding concreteOutcome
 next-agrees place b s c = ap (λ (o : Outcome Fortuna). o .effect .next) (step-agrees place b s c)
 
 -- ---- every run
 
-pub run-agrees : (calls : List Call) (place : ℕ) (b : Reference) → Sound b
-    → runFrom (λ place. step) place (concrete b) calls ≡ map concreteOutcome (runFrom referenceStep place b calls)
+pub run-agrees : (calls : List Entry) (place : ℕ) (b : Reference) → Sound b
+    → runFrom (λ place. entryStep) place (concrete b) calls ≡ map concreteOutcome (runFrom referenceStep place b calls)
 unfolding runFrom
 run-agrees [] place b s = refl
 run-agrees (c ∷ calls) place b s =
     ap₂ {B = List (Outcome Fortuna)} (λ (o : Outcome Fortuna) l. o ∷ l)
     (step-agrees place b s c)
-    (ap (λ (x : Fortuna). runFrom (λ place. step) (suc place) x calls) (next-agrees place b s c)
+    (ap (λ (x : Fortuna). runFrom (λ place. entryStep) (suc place) x calls) (next-agrees place b s c)
     ∙ run-agrees calls (suc place) (referenceStep place b c .effect .next) (step-sound place b s c))
 
-pub state-agrees : (calls : List Call) (place : ℕ) (b : Reference) → Sound b
-    → stateFrom (λ place. step) place (concrete b) calls ≡ concrete (stateFrom referenceStep place b calls)
+pub state-agrees : (calls : List Entry) (place : ℕ) (b : Reference) → Sound b
+    → stateFrom (λ place. entryStep) place (concrete b) calls ≡ concrete (stateFrom referenceStep place b calls)
 unfolding stateFrom
 state-agrees [] place b s = refl
 state-agrees (c ∷ calls) place b s =
-    ap (λ (x : Fortuna). stateFrom (λ place. step) (suc place) x calls) (next-agrees place b s c)
+    ap (λ (x : Fortuna). stateFrom (λ place. entryStep) (suc place) x calls) (next-agrees place b s c)
     ∙ state-agrees calls (suc place) (referenceStep place b c .effect .next) (step-sound place b s c)
 
 -- the model is sound after every list of calls
-pub sound-from : (calls : List Call) (place : ℕ) (b : Reference) → Sound b → Sound (stateFrom referenceStep place b calls)
+pub sound-from : (calls : List Entry) (place : ℕ) (b : Reference) → Sound b → Sound (stateFrom referenceStep place b calls)
 unfolding stateFrom
 sound-from [] place b s = s
 sound-from (c ∷ calls) place b s = sound-from calls (suc place) (referenceStep place b c .effect .next) (step-sound place b s c)
 
-pub sound-after : (calls : List Call) → Sound (referenceAfter calls)
+pub sound-after : (calls : List Entry) → Sound (referenceAfter calls)
 unfolding referenceAfter
 sound-after calls = sound-from calls 0 empty sound-empty
 
@@ -209,32 +233,52 @@ fresh-concrete =
       «key_requests» = 0;
     }
 
-pub agrees : (calls : List Call) → Agrees calls
+-- ---- the lists that the calls return
+
+list-concrete : (c : Entry) (o : Outcome Reference) → listAfter c (concreteOutcome o) ≡ listAfter c o
+unfolding listAfter recordAfter concreteOutcome
+list-concrete c o = refl
+
+lists-concrete : (calls : List Entry) (os : List (Outcome Reference)) → listsAfter calls (map concreteOutcome os) ≡ listsAfter calls os
+unfolding listsAfter
+lists-concrete [] os = refl
+lists-concrete (c ∷ calls) [] = refl
+lists-concrete (c ∷ calls) (o ∷ os) = ap₂ (λ (q : Quotas) (qs : List Quotas). q ∷ qs) (list-concrete c o) (lists-concrete calls os)
+
+run-lists : (calls : List Entry) → listsLeft calls (run calls) ≡ listsAfter calls (run calls)
+unfolding run
+run-lists calls = lists-left calls 0 fresh
+
+pub agrees : (calls : List Entry) → Agrees calls
 agrees calls =
     record {
       fresh-state = fresh-concrete;
-      outcomes =
-          unfold run referenceRun in
-          ap (λ (s : Fortuna). runFrom (λ place. step) 0 s calls) fresh-concrete ∙ run-agrees calls 0 empty sound-empty;
+      outcomes = same;
+      lists = run-lists calls ∙ ap (listsAfter calls) same ∙ lists-concrete calls (referenceRun calls);
       state =
           unfold stateAfter referenceAfter in
-          ap (λ (s : Fortuna). stateFrom (λ place. step) 0 s calls) fresh-concrete ∙ state-agrees calls 0 empty sound-empty;
+          ap (λ (s : Fortuna). stateFrom (λ place. entryStep) 0 s calls) fresh-concrete ∙ state-agrees calls 0 empty sound-empty;
     }
+  where
+    same : run calls ≡ map concreteOutcome (referenceRun calls)
+    same =
+        unfold run referenceRun in
+        ap (λ (s : Fortuna). runFrom (λ place. entryStep) 0 s calls) fresh-concrete ∙ run-agrees calls 0 empty sound-empty
 
 -- ---- a run is its calls' steps
 
-run-more : (calls : List Call) (place : ℕ) (s : Fortuna) (c : Call)
-    → runFrom (λ place. step) place s (calls ++ (c ∷ []))
-    ≡ runFrom (λ place. step) place s calls ++ (step (stateFrom (λ place. step) place s calls) c ∷ [])
+run-more : (calls : List Entry) (place : ℕ) (s : Fortuna) (c : Entry)
+    → runFrom (λ place. entryStep) place s (calls ++ (c ∷ []))
+    ≡ runFrom (λ place. entryStep) place s calls ++ (entryStep (stateFrom (λ place. entryStep) place s calls) c ∷ [])
 unfolding runFrom stateFrom
 run-more [] place s c = refl
-run-more (x ∷ calls) place s c = ap {B = List (Outcome Fortuna)} (λ l. step s x ∷ l) (run-more calls (suc place) (step s x .effect .next) c)
+run-more (x ∷ calls) place s c = ap {B = List (Outcome Fortuna)} (λ l. entryStep s x ∷ l) (run-more calls (suc place) (entryStep s x .effect .next) c)
 
-state-more : (calls : List Call) (place : ℕ) (s : Fortuna) (c : Call)
-    → stateFrom (λ place. step) place s (calls ++ (c ∷ [])) ≡ step (stateFrom (λ place. step) place s calls) c .effect .next
+state-more : (calls : List Entry) (place : ℕ) (s : Fortuna) (c : Entry)
+    → stateFrom (λ place. entryStep) place s (calls ++ (c ∷ [])) ≡ entryStep (stateFrom (λ place. entryStep) place s calls) c .effect .next
 unfolding stateFrom
 state-more [] place s c = refl
-state-more (x ∷ calls) place s c = state-more calls (suc place) (step s x .effect .next) c
+state-more (x ∷ calls) place s c = state-more calls (suc place) (entryStep s x .effect .next) c
 
 pub run-is-steps : RunIsSteps
 run-is-steps =

@@ -1,8 +1,7 @@
 -- Demand 3, whole: the one claim about every list of calls.
 -- Assumes nothing.
 use mathlib.Core.List.{List}
-use Rattle.pools.specs.Calls.{Call}
-use Rattle.pools.proofs.Blank.{blank-law}
+use Rattle.quotas.specs.Entries.{Entry}
 use Rattle.reference.specs.Correct.{RunCorrect}
 use Rattle.reference.proofs.Agreement.{run-is-steps, agrees}
 use Rattle.reference.proofs.Provenance as Events
@@ -10,8 +9,9 @@ use Rattle.reference.proofs.Timer.{elapsed-law, timer-step}
 use Rattle.reference.proofs.Counters.{no-repeat}
 use Rattle.reference.proofs.Counting.{counted}
 use Rattle.reference.proofs.KeyRequests.{on-one-key}
+use Rattle.reference.proofs.BlankPages.{blank-pages}
 
-pub run-correct : (calls : List Call) → RunCorrect calls
+pub run-correct : (calls : List Entry) → RunCorrect calls
 run-correct calls =
     record {
       steps = run-is-steps;
@@ -22,5 +22,5 @@ run-correct calls =
       counters = no-repeat calls;
       counted = counted calls;
       key-requests = on-one-key calls;
-      blank = blank-law;
+      blank = blank-pages;
     }

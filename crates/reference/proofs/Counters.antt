@@ -18,6 +18,7 @@ use Rattle.pools.specs.Refusals.{seedSize}
 use Rattle.pools.specs.Effects.{Effect, unchanged}
 use Rattle.pools.specs.Draws.{trySize, after, leaving}
 use Rattle.pools.specs.Calls.{Call, event, request, update, write, draw, shuffle, inputBuffer, Outcome, effectOf, outcome, runFrom}
+use Rattle.quotas.specs.Entries.{Entry}
 use Rattle.pools.proofs.EachTry.{Kept, kept-tries, kept-shuffled}
 use Rattle.reference.specs.Reference.{referenceTry, Reference, empty, appendEvent, withState, requestedState, referenceReseedIfDue, referenceRequest, referenceEffect, referenceStep, referenceRun}
 use Rattle.reference.specs.Agreement.{concreteOutcome}
@@ -109,11 +110,11 @@ effect-rises place b (write t seed) = request-rises b t seedSize (b .generator .
 effect-rises place b (draw t n d) = kept-tries (referenceTry t) _ (tries-rise t) n d b
 effect-rises place b (shuffle t list) = kept-shuffled (referenceTry t) _ (tries-rise t) list b
 
-step-rises : (place : ℕ) (b : Reference) (c : Call) → RisesTo (b .generator .count) (referenceStep place b c .effect)
+step-rises : (place : ℕ) (b : Reference) (c : Entry) → RisesTo (b .generator .count) (referenceStep place b c .effect)
 unfolding referenceStep outcome
-step-rises place b c = outcome-rises _ (inputBuffer c) b _ (effect-rises place b c)
+step-rises place b c = outcome-rises _ (inputBuffer (c .call)) b _ (effect-rises place b (c .call))
 
-run-rises : (calls : List Call) (place : ℕ) (b : Reference) → Sound b
+run-rises : (calls : List Entry) (place : ℕ) (b : Reference) → Sound b
     → (hi : ℕ) × (hi ≤ maxCounter) × Rising hi (b .generator .count) (joined (λ (o : Outcome Reference). o .effect .trace) (runFrom referenceStep place b calls))
 unfolding runFrom joined RisesTo
 run-rises [] place b s = (b .generator .count, s .counts, top (b .generator .count) (omega arith))
@@ -123,13 +124,13 @@ run-rises (c ∷ calls) place b s =
 
 -- ---- the station's are the model's
 
-pub blocks-are : (calls : List Call) → counterBlocks calls ≡ joined (λ (o : Outcome Reference). o .effect .trace) (referenceRun calls)
+pub blocks-are : (calls : List Entry) → counterBlocks calls ≡ joined (λ (o : Outcome Reference). o .effect .trace) (referenceRun calls)
 unfolding counterBlocks concreteOutcome
 blocks-are calls =
     ap (joined (λ (o : Outcome Fortuna). o .effect .trace)) (agrees calls .outcomes)
     ∙ joined-map (λ (o : Outcome Fortuna). o .effect .trace) concreteOutcome (referenceRun calls)
 
-pub no-repeat : (calls : List Call) → NoRepeat (counterBlocks calls)
+pub no-repeat : (calls : List Entry) → NoRepeat (counterBlocks calls)
 no-repeat calls =
     let up-to = run-rises calls 0 empty sound-empty in
     subst (λ (l : List (List ℕ)). NoRepeat l) (sym (blocks-are calls)) (unfold referenceRun in rising-no-repeat (up-to .1) (up-to .2))

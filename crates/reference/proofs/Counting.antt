@@ -16,9 +16,10 @@ use Rattle.pools.specs.State.{counterOf}
 use Rattle.pools.specs.Refusals.{andThen, seedSize}
 use Rattle.pools.specs.Effects.{Effect, unchanged}
 use Rattle.pools.specs.Draws.{trySize, after, leaving}
-use Rattle.pools.specs.Calls.{Call, event, request, update, write, draw, shuffle, inputBuffer, Outcome, effectOf, outcome, runFrom, stateFrom, run, stateAfter}
+use Rattle.pools.specs.Calls.{Call, event, request, update, write, draw, shuffle, inputBuffer, Outcome, effectOf, outcome, runFrom, stateFrom}
+use Rattle.quotas.specs.Entries.{Entry}
 use Rattle.pools.proofs.EachTry.{Kept, kept-tries, kept-shuffled}
-use Rattle.reference.specs.Reference.{Reference, empty, appendEvent, withState, requestedState, referenceReseedIfDue, referenceRequest, referenceTry, referenceNumber, referenceFound, referenceEffect, referenceStep, referenceRun, referenceAfter, dueAt}
+use Rattle.reference.specs.Reference.{Reference, empty, appendEvent, withState, requestedState, referenceReseedIfDue, referenceRequest, referenceTry, referenceEntryNumber, referenceFound, referenceEffect, referenceStep, referenceRun, referenceAfter, dueAt}
 use Rattle.reference.specs.Agreement.{concrete, concreteOutcome}
 use Rattle.reference.specs.Timer.{reseedsAfter}
 use Rattle.reference.specs.Counters.{counterBlocks, isUpdate, seedsIn, Counted}
@@ -100,18 +101,19 @@ update-found b (draw t n d) h = absurd (true≢false (sym h))
 update-found b (shuffle t list) h = absurd (true≢false (sym h))
 
 step-grows :
-    (place : ℕ) (b : Reference) (c : Call) →
-    Grows (cond (isUpdate c && eqb (referenceStep place b c .number) 0) 1 0) b (referenceStep place b c .effect)
+    (place : ℕ) (b : Reference) (e : Entry) →
+    Grows (cond (isUpdate (e .call) && eqb (referenceStep place b e .number) 0) 1 0) b (referenceStep place b e .effect)
 unfolding referenceStep outcome
-step-grows place b c =
-    call-grows (referenceNumber b c) (isUpdate c) (referenceFound b c) (inputBuffer c) b (referenceEffect place b c) (update-found b c)
+step-grows place b e =
+    let c = e .call in
+    call-grows (referenceEntryNumber b e) (isUpdate c) (referenceFound b c) (inputBuffer c) b (referenceEffect place b c) (update-found b c)
     (unfold seedOf in effect-grows place b c)
 
-step-grown : (place : ℕ) (b : Reference) (c : Call)
-    → referenceStep place b c .effect .next .generator .count + b .reseeds
-    ≡ b .generator .count + length (referenceStep place b c .effect .trace) + referenceStep place b c .effect .next .reseeds
-    + cond (isUpdate c && eqb (referenceStep place b c .number) 0) 1 0
-step-grown place b c = unfold Grows in step-grows place b c
+step-grown : (place : ℕ) (b : Reference) (e : Entry)
+    → referenceStep place b e .effect .next .generator .count + b .reseeds
+    ≡ b .generator .count + length (referenceStep place b e .effect .trace) + referenceStep place b e .effect .next .reseeds
+    + cond (isUpdate (e .call) && eqb (referenceStep place b e .number) 0) 1 0
+step-grown place b e = unfold Grows in step-grows place b e
 
 -- ---- a run
 
@@ -119,7 +121,7 @@ step-grown place b c = unfold Grows in step-grows place b c
 abbrev traceOf : List (Outcome Reference) → List (List ℕ)
 traceOf os = joined (λ (o : Outcome Reference). o .effect .trace) os
 
-run-counts : (calls : List Call) (place : ℕ) (b : Reference)
+run-counts : (calls : List Entry) (place : ℕ) (b : Reference)
     → stateFrom referenceStep place b calls .generator .count + b .reseeds
     ≡ b .generator .count + length (traceOf (runFrom referenceStep place b calls)) + stateFrom referenceStep place b calls .reseeds
     + seedsIn calls (runFrom referenceStep place b calls)
@@ -133,18 +135,18 @@ run-counts (c ∷ calls) place b =
 
 -- ---- the station's
 
-seeds-concrete : (calls : List Call) (os : List (Outcome Reference)) → seedsIn calls (map concreteOutcome os) ≡ seedsIn calls os
+seeds-concrete : (calls : List Entry) (os : List (Outcome Reference)) → seedsIn calls (map concreteOutcome os) ≡ seedsIn calls os
 unfolding seedsIn concreteOutcome
 seeds-concrete [] os = refl
 seeds-concrete (c ∷ calls) [] = refl
-seeds-concrete (c ∷ calls) (o ∷ os) = ap (λ (n : ℕ). cond (isUpdate c && eqb (o .number) 0) 1 0 + n) (seeds-concrete calls os)
+seeds-concrete (c ∷ calls) (o ∷ os) = ap (λ (n : ℕ). cond (isUpdate (c .call) && eqb (o .number) 0) 1 0 + n) (seeds-concrete calls os)
 
-model-counts : (calls : List Call) → referenceAfter calls .generator .count
+model-counts : (calls : List Entry) → referenceAfter calls .generator .count
     ≡ length (traceOf (referenceRun calls)) + (referenceAfter calls .reseeds + seedsIn calls (referenceRun calls))
 unfolding referenceAfter referenceRun empty initial
 model-counts calls = omega (arith, run-counts calls 0 empty)
 
-pub counted : (calls : List Call) → Counted calls
+pub counted : (calls : List Entry) → Counted calls
 unfolding counterOf
 counted calls =
     ap (λ (s : Fortuna). counterOf s) (agrees calls .state)

@@ -19,7 +19,9 @@ use Rattle.pools.specs.State.{fresh, due}
 use Rattle.pools.specs.Refusals.{seedSize, maxTries}
 use Rattle.pools.specs.Effects.{Effect, unchanged, withPool, withGenerator, withRequest, addEvent, poolReseed, reseedIfDue, randomData, reseedWithSeed, updateSeed, writeSeed}
 use Rattle.pools.specs.Draws.{Drawn, trySize, after, leaving, tries, shuffleFrom, shuffled, tryAt}
-use Rattle.pools.specs.Calls.{Call, event, request, update, write, draw, shuffle, readingOf, inputBuffer, callNumber, callEffect, effectOf, outcome, step, stateFrom, stateAfter}
+use Rattle.pools.specs.Calls.{Call, event, request, update, write, draw, shuffle, readingOf, inputBuffer, callEffect, effectOf, outcome, stateFrom}
+use Rattle.quotas.specs.Entries.{Entry, entryNumber, entryStep}
+use Rattle.reference.specs.Runs.{stateAfter}
 use Rattle.pools.specs.Tries.{drawTries, shuffleTries, callTries}
 use Rattle.pools.proofs.EachTry.{Kept, Begun, begun-tries, begun-shuffled, idle-shuffle}
 use Rattle.pools.proofs.OneReseed.{quiet-after}
@@ -190,24 +192,26 @@ module _ (s : Fortuna) (n : ℕ) (before : s .«key_requests» ≡ min maxKeyReq
   outcome-counts (suc m) buffer x d k h = rw (eqb·suc-zero m) (unfold unchanged in rw (add-zero n) before)
 
   step-counts :
-      (c : Call) →
-      step s c .effect .next .«key_requests» ≡ min maxKeyRequests (cond (ltb 0 (step s c .effect .emptied)) 0 n + requestsMade s c)
+      (e : Entry) →
+      entryStep s e .effect .next .«key_requests» ≡ min maxKeyRequests (cond (ltb 0 (entryStep s e .effect .emptied)) 0 n + requestsMade s e)
   unfolding requestsMade
-  step-counts c =
-      rw (step-emptied s c)
-      (unfold step outcome in outcome-counts (callNumber s c) (inputBuffer c) (callEffect s c) (dueFor s c) (requestsOf s c) (effect-counts c))
+  step-counts e =
+      let c = e .call in
+      rw (step-emptied s e)
+      (unfold entryStep outcome in
+      outcome-counts (entryNumber s e) (inputBuffer c) (callEffect s c) (dueFor s c) (requestsOf s c) (effect-counts c))
 
 -- ---- a run
 
 run-counts :
-    (calls : List Call) (place : ℕ) (s : Fortuna) (n : ℕ) → s .«key_requests» ≡ min maxKeyRequests n →
-    stateFrom (λ place. step) place s calls .«key_requests» ≡ min maxKeyRequests (sinceReseed n s calls)
+    (calls : List Entry) (place : ℕ) (s : Fortuna) (n : ℕ) → s .«key_requests» ≡ min maxKeyRequests n →
+    stateFrom (λ place. entryStep) place s calls .«key_requests» ≡ min maxKeyRequests (sinceReseed n s calls)
 unfolding stateFrom sinceReseed
 run-counts [] place s n e = e
 run-counts (c ∷ calls) place s n e =
-    run-counts calls (suc place) (step s c .effect .next) _ (step-counts s n e c ∙ ap (min maxKeyRequests) (omega arith))
+    run-counts calls (suc place) (entryStep s c .effect .next) _ (step-counts s n e c ∙ ap (min maxKeyRequests) (omega arith))
 
-pub on-one-key : (calls : List Call) → OnOneKey calls
+pub on-one-key : (calls : List Entry) → OnOneKey calls
 unfolding stateAfter fresh maxKeyRequests
 on-one-key calls = run-counts calls 0 fresh 0 refl
 

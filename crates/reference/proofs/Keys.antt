@@ -14,9 +14,10 @@ use Rattle.pools.specs.declared.Fortuna.{Fortuna}
 use Rattle.pools.specs.Refusals.{andThen, seedSize, maxTries, updateNumber, writeNumber}
 use Rattle.pools.specs.Effects.{Effect, poolReseed, reseedWithSeed}
 use Rattle.pools.specs.Draws.{Drawn, trySize, tries, shuffleFrom, shuffled}
-use Rattle.pools.specs.Calls.{Call, event, request, update, write, draw, shuffle, readingOf, Outcome, effectOf, outcome, step}
+use Rattle.pools.specs.Calls.{Call, event, request, update, write, draw, shuffle, readingOf, Outcome, effectOf, outcome}
+use Rattle.quotas.specs.Entries.{Entry, entryStep}
 use Rattle.pools.proofs.Acceptance.{not-spent, request-room, write-room, update-room, draw-passed, shuffle-passed}
-use Rattle.reference.specs.Reference.{Reference, dueAt, withState, referenceReseed, referenceReseedIfDue, referenceNumber, referenceEffect, referenceFound, referenceValue, referenceStep}
+use Rattle.reference.specs.Reference.{Reference, dueAt, withState, referenceReseed, referenceReseedIfDue, referenceNumber, referenceEntryNumber, referenceEffect, referenceFound, referenceValue, referenceStep}
 use Rattle.reference.specs.Agreement.{concrete, concreteOutcome}
 use Rattle.reference.specs.Timer.{requests}
 use Rattle.reference.specs.Provenance.{atReseed, served, madeFrom, TakenFrom}
@@ -25,7 +26,7 @@ use Rattle.reference.proofs.Concrete.{decode-concrete}
 use Rattle.reference.proofs.Simulation.{pool-reseed-concrete, reseed-with-seed-concrete}
 use Rattle.reference.proofs.Moves.{state-due}
 use Rattle.reference.proofs.Requests.{seeded}
-use Rattle.reference.proofs.Agreement.{step-agrees}
+use Rattle.reference.proofs.Agreement.{step-agrees, own-accepted}
 use Rattle.reference.proofs.Carried.{carried}
 use Rattle.reference.proofs.Taken.{alone, request-alone, draw-alone, shuffle-alone}
 
@@ -143,19 +144,22 @@ module _ (b : Reference) (s : Sound b) where
         (ap concrete reseed-made ∙ sym (pool-reseed-concrete (beforeReseed b c) (readingOf c) sound)
         ∙ ap (λ (x : Fortuna). poolReseed x (readingOf c)) (sym (before-concrete c)))
 
-    step-takes : TakenFrom (madeFrom (keyAt b c) c) (concreteOutcome (referenceStep 0 b c))
+  module _ (e : Entry) (allowed : referenceEntryNumber b e ≡ 0) (asks : requests (e .call) ≡ true) (reseeds : dueAt b (readingOf (e .call)) ≡ true) where
+    step-takes : TakenFrom (madeFrom (keyAt b (e .call)) (e .call)) (concreteOutcome (referenceStep 0 b e))
     unfolding referenceStep outcome effectOf andThen concreteOutcome concrete alone
     step-takes =
-        let m = makes 0 b c asks in
+        let m = makes 0 b (e .call) asks in
         record {
-          number = rw (accepted, m .found);
-          value = rw accepted (m .value);
-          bytes = rw accepted (ap (λ (e : Effect GeneratorState). e .buffer) (m .effect));
-          next = rw accepted (ap (λ (e : Effect GeneratorState). encode (e .next)) (m .effect));
+          number = rw (allowed, m .found);
+          value = rw allowed (m .value);
+          bytes = rw allowed (ap (λ (e : Effect GeneratorState). e .buffer) (m .effect));
+          next = rw allowed (ap (λ (e : Effect GeneratorState). encode (e .next)) (m .effect));
         }
 
-    pub takes : TakenFrom (madeFrom (decode (poolReseed (atReseed (concrete b) c) (readingOf c) .generator)) c) (step (concrete b) c)
+    pub takes : TakenFrom (madeFrom (decode (poolReseed (atReseed (concrete b) (e .call)) (readingOf (e .call)) .generator)) (e .call)) (entryStep (concrete b) e)
     takes =
+        let c = e .call in
         subst (λ (o : Outcome Fortuna). TakenFrom (madeFrom (decode (poolReseed (atReseed (concrete b) c) (readingOf c) .generator)) c) o)
-        (sym (step-agrees 0 b s c))
-        (subst (λ (w : GeneratorState). TakenFrom (madeFrom w c) (concreteOutcome (referenceStep 0 b c))) key-is step-takes)
+        (sym (step-agrees 0 b s e))
+        (subst (λ (w : GeneratorState). TakenFrom (madeFrom w c) (concreteOutcome (referenceStep 0 b e)))
+        (key-is c (own-accepted b e allowed) asks reseeds) step-takes)

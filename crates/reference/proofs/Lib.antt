@@ -1,3 +1,4 @@
+pub mod ListReadings
 pub mod Schedule
 pub mod Bookings
 pub mod Invariant
@@ -19,7 +20,10 @@ pub mod Taken
 pub mod Keys
 pub mod Provenance
 pub mod KeyRequests
+pub mod BlankPages
 pub mod Correct
 pub mod Computing
 pub mod Readings
 pub mod Boundaries
+pub mod AsBefore
+pub mod QuotaRows

@@ -10,7 +10,8 @@ use lib.ListN.{length}
 use Rattle.pools.specs.Events.{eventBytes}
 use Rattle.pools.specs.Effects.{Effect}
 use Rattle.pools.specs.Calls.{Call, event, inputBuffer, outcome, stateFrom}
-use Rattle.reference.specs.Reference.{Accepted, Reference, empty, appendEvent, referenceNumber, referenceEffect, referenceStep, referenceAfter}
+use Rattle.quotas.specs.Entries.{Quotas, Entry, taking}
+use Rattle.reference.specs.Reference.{Accepted, Reference, empty, appendEvent, referenceNumber, referenceEffect, referenceStep, referenceAfter, referenceEntryNumber}
 use Rattle.reference.specs.Provenance.{NoEvent}
 use Rattle.reference.proofs.Invariant.{events-noted}
 use Rattle.reference.proofs.Advances.{Shape, appended, moved, effect-shape, outcome-done, outcome-keeps}
@@ -33,11 +34,11 @@ module _ (P : List Accepted → Type 0) (place : ℕ) (b : Reference) (h : P (b 
       rw (e, events-noted place b pool (eventBytes source content)) (k source pool content q)
   shape-keeps c x k (moved _ a) = rw (a .events) h
 
-  step-keeps : (c : Call) → (referenceNumber b c ≡ 0 → Adding c) → P (referenceStep place b c .effect .next .events)
+  step-keeps : (c : Entry) → (referenceEntryNumber b c ≡ 0 → Adding (c .call)) → P (referenceStep place b c .effect .next .events)
   unfolding referenceStep outcome
   step-keeps c k =
-      outcome-keeps (λ (x : Reference). P (x .events)) (referenceNumber b c) (inputBuffer c) b (referenceEffect place b c) h
-      (λ e. shape-keeps c _ (k e) (effect-shape place b c))
+      outcome-keeps (λ (x : Reference). P (x .events)) (referenceEntryNumber b c) (inputBuffer (c .call)) b (referenceEffect place b (c .call)) h
+      (λ e. shape-keeps (c .call) _ (k e) (effect-shape place b (c .call)))
 
 -- ---- what holds of every event
 
@@ -50,7 +51,7 @@ every-append P es e h k x m =
 
 -- what holds of the events at later places goes on
 run-every :
-    (P : Accepted → Type 0) (calls : List Call) (place : ℕ) (b : Reference) → Every P (b .events) →
+    (P : Accepted → Type 0) (calls : List Entry) (place : ℕ) (b : Reference) → Every P (b .events) →
     ((e : Accepted) → place ≤ e .place → P e) → Every P (stateFrom referenceStep place b calls .events)
 unfolding stateFrom
 run-every P [] place b h k = h
@@ -61,7 +62,7 @@ run-every P (c ∷ calls) place b h k =
 
 -- an event stays
 run-member :
-    (e : Accepted) (calls : List Call) (place : ℕ) (b : Reference) → List·Memᴰ e (b .events) →
+    (e : Accepted) (calls : List Entry) (place : ℕ) (b : Reference) → List·Memᴰ e (b .events) →
     List·Memᴰ e (stateFrom referenceStep place b calls .events)
 unfolding stateFrom
 run-member e [] place b m = m
@@ -71,7 +72,7 @@ run-member e (c ∷ calls) place b m =
 
 -- the places are those of the calls so far
 run-below :
-    (calls : List Call) (place : ℕ) (b : Reference) → Every (λ e. e .place < place) (b .events) →
+    (calls : List Entry) (place : ℕ) (b : Reference) → Every (λ e. e .place < place) (b .events) →
     Every (λ e. e .place < place + length calls) (stateFrom referenceStep place b calls .events)
 unfolding stateFrom
 run-below [] place b h e m = omega (arith, h e m)
@@ -83,14 +84,14 @@ run-below (c ∷ calls) place b h e m =
           (λ _ source pool content _. every-append (λ e. e .place < suc place) (b .events) _ (λ f n. omega (arith, h f n)) (omega arith))) e m,
     )
 
-pub after-below : (calls : List Call) → Every (λ e. e .place < length calls) (referenceAfter calls .events)
+pub after-below : (calls : List Entry) → Every (λ e. e .place < length calls) (referenceAfter calls .events)
 unfolding referenceAfter empty
 after-below calls e m = omega (arith, run-below calls 0 empty (unfold empty in λ f n. absurd (List·Memᴰ·not-nil n)) e m)
 
 -- ---- a list of calls, cut at one of them
 
 from-append :
-    (xs ys : List Call) (place : ℕ) (b : Reference) →
+    (xs ys : List Entry) (place : ℕ) (b : Reference) →
     stateFrom referenceStep place b (xs ++ ys) ≡ stateFrom referenceStep (place + length xs) (stateFrom referenceStep place b xs) ys
 unfolding stateFrom
 from-append [] ys place b = ap (λ (p : ℕ). stateFrom referenceStep p b ys) (omega arith)
@@ -98,7 +99,7 @@ from-append (c ∷ xs) ys place b =
     from-append xs ys (suc place) (referenceStep place b c .effect .next)
     ∙ ap (λ (p : ℕ). stateFrom referenceStep p (stateFrom referenceStep (suc place) (referenceStep place b c .effect .next) xs) ys) (omega arith)
 
-module _ (before : List Call) (c : Call) (later : List Call) where
+module _ (before : List Entry) (c : Entry) (later : List Entry) where
   -- the state that the call leaves
   left : Reference
   left = referenceStep (length before) (referenceAfter before) c .effect .next
@@ -111,7 +112,7 @@ module _ (before : List Call) (c : Call) (later : List Call) where
 
   -- no event stands at the place of a call that is refused or is no event
   pub none-at :
-      (referenceNumber (referenceAfter before) c ≡ 0 → NoEvent c) →
+      (referenceEntryNumber (referenceAfter before) c ≡ 0 → NoEvent c) →
       Every (λ e. e .place ≡ length before → ⊥) (referenceAfter (before ++ (c ∷ later)) .events)
   none-at h =
       rw after-cut
@@ -122,28 +123,28 @@ module _ (before : List Call) (c : Call) (later : List Call) where
 
 -- ---- an accepted event
 
-module _ (before : List Call) (source pool : ℕ) (content : List ℕ) (later : List Call)
-    (accepted : referenceNumber (referenceAfter before) (event source pool content) ≡ 0) where
+module _ (before : List Entry) (q : Quotas) (source pool : ℕ) (content : List ℕ) (later : List Entry)
+    (accepted : referenceEntryNumber (referenceAfter before) (taking q (event source pool content)) ≡ 0) where
   -- it is noted, with the R before it
   abbrev noted : Accepted
   noted = newEvent (length before) (referenceAfter before) source pool content
 
-  left-events : left before (event source pool content) later .events ≡ referenceAfter before .events ++ (noted ∷ [])
+  left-events : left before (taking q (event source pool content)) later .events ≡ referenceAfter before .events ++ (noted ∷ [])
   unfolding left referenceStep referenceEffect outcome
   left-events =
       ap (λ (o : Effect Reference). o .next .events) (outcome-done _ _ _ _ accepted)
       ∙ events-noted (length before) (referenceAfter before) pool (eventBytes source content)
 
   -- it is listed
-  pub event-listed : List·Memᴰ noted (referenceAfter (before ++ (event source pool content ∷ later)) .events)
+  pub event-listed : List·Memᴰ noted (referenceAfter (before ++ (taking q (event source pool content) ∷ later)) .events)
   event-listed =
-      rw (after-cut before (event source pool content) later)
+      rw (after-cut before (taking q (event source pool content)) later)
       (run-member noted later (suc (length before)) _ (rw left-events (Memᴰ·append-right (referenceAfter before .events) (List·Memᴰ·head refl))))
 
   -- and alone at its place
-  pub event-alone : Every (λ e. e .place ≡ length before → e ≡ noted) (referenceAfter (before ++ (event source pool content ∷ later)) .events)
+  pub event-alone : Every (λ e. e .place ≡ length before → e ≡ noted) (referenceAfter (before ++ (taking q (event source pool content) ∷ later)) .events)
   event-alone =
-      rw (after-cut before (event source pool content) later)
+      rw (after-cut before (taking q (event source pool content)) later)
       (run-every (λ e. e .place ≡ length before → e ≡ noted) later (suc (length before)) _
       (rw left-events (every-append (λ e. e .place ≡ length before → e ≡ noted) (referenceAfter before .events) noted
       (λ e m q. absurd (omega (arith, after-below before e m))) (λ q. refl)))

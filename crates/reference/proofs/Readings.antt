@@ -10,9 +10,10 @@ use Rattle.generator.specs.Closed.{rekeyed, closedRandomData}
 use Rattle.generator.proofs.Steps.{random-data-closed}
 use Rattle.pools.specs.State.{counterOf}
 use Rattle.pools.specs.Effects.{randomData}
-use Rattle.pools.specs.Calls.{runFrom, run}
+use Rattle.pools.specs.Calls.{inputNumber, runFrom, run}
 use Rattle.reference.specs.Reference.{scheduledReseed, scheduled, select, pending, contents, poolContents}
-use Rattle.reference.specs.Reference.{appendEvent, referenceNumber, referenceEffect, referenceStep}
+use Rattle.reference.specs.Reference.{appendEvent, referenceNumber, referenceEntryNumber, referenceEffect, referenceStep}
+use Rattle.reference.specs.ReferenceLists.{byRecords}
 use Rattle.reference.specs.Readings.{seededState, emptiedAt, filled, bookedAfter, GrowthRow, Readings}
 use Rattle.reference.proofs.Computing.{answering, adding, emptying, seeding, starting}
 
@@ -25,9 +26,14 @@ growth-row : GrowthRow
 unfolding value littleEndian blockCount
 growth-row = rw (growth-closed 0, growth-closed 1, growth-closed 16, growth-closed 17, growth-closed 1048576)
 
+-- the number of a call without a list in the model
+numbering : Unit {0}
+unfolding inputNumber byRecords referenceEntryNumber referenceStep
+numbering = tt
+
 -- the model's side of the table
 modelling : Unit {0}
-unfolding scheduledReseed scheduled select pending contents poolContents joined appendEvent referenceNumber referenceEffect referenceStep bookedAfter
+unfolding scheduledReseed scheduled select pending contents poolContents joined appendEvent referenceNumber referenceEffect bookedAfter numbering
 modelling = tt
 
 -- the Block steps of a seed update

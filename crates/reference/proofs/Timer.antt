@@ -16,8 +16,10 @@ use Rattle.pools.specs.State.{poolAt, due}
 use Rattle.pools.specs.Refusals.{andThen}
 use Rattle.pools.specs.Effects.{Effect, unchanged, withPool, withGenerator, withRequest, addEvent, nextReseed, poolReseed, reseedIfDue, emptiedBy, randomData, reseedWithSeed, updateSeed, writeSeed}
 use Rattle.pools.specs.Draws.{trySize, after, leaving, tries, shuffled, tryAt}
-use Rattle.pools.specs.Calls.{Call, event, request, update, write, draw, shuffle, readingOf, inputBuffer, callNumber, callEffect, callFound, effectOf, outcome, step, stateAfter}
-use Rattle.pools.proofs.Bounds.{none-drawn}
+use Rattle.pools.specs.Calls.{Call, event, request, update, write, draw, shuffle, readingOf, inputBuffer, callNumber, callEffect, callFound, effectOf, outcome}
+use Rattle.quotas.specs.Entries.{Entry, entryNumber, entryStep}
+use Rattle.quotas.proofs.Entries.{entry-not-33}
+use Rattle.reference.specs.Runs.{stateAfter}
 use Rattle.pools.proofs.EachTry.{Kept, Begun, begun-tries, begun-shuffled, idle-shuffle}
 use Rattle.pools.proofs.OneReseed.{quiet-after, first-try, first-shuffled}
 use Rattle.reference.specs.Agreement.{concrete}
@@ -194,22 +196,23 @@ not-refused zero f h e = refl
 not-refused (suc n) f h (inl e) = rw (eqb·suc-zero n) at e
 not-refused (suc n) f h (inr e) = let k : suc n ≡ 33 = rw (eqb·suc-zero n) at e in absurd (h k)
 
-step-taken : (s : Fortuna) (c : Call) → callNumber s c ≡ 0 → (step s c .number ≡ 0) ⊎ (step s c .number ≡ 33)
-unfolding step outcome
-step-taken s c e = taken (callNumber s c) (callFound s c) e
+step-taken : (s : Fortuna) (c : Entry) → entryNumber s c ≡ 0 → (entryStep s c .number ≡ 0) ⊎ (entryStep s c .number ≡ 33)
+unfolding entryStep outcome
+step-taken s c e = taken (entryNumber s c) (callFound s (c .call)) e
 
-step-not-refused : (s : Fortuna) (c : Call) → (step s c .number ≡ 0) ⊎ (step s c .number ≡ 33) → callNumber s c ≡ 0
-unfolding step outcome
-step-not-refused s c n = not-refused (callNumber s c) (callFound s c) (none-drawn s c) n
+step-not-refused : (s : Fortuna) (c : Entry) → (entryStep s c .number ≡ 0) ⊎ (entryStep s c .number ≡ 33) → entryNumber s c ≡ 0
+unfolding entryStep outcome
+step-not-refused s c n = not-refused (entryNumber s c) (callFound s (c .call)) (entry-not-33 s c) n
 
-pub step-emptied : (s : Fortuna) (c : Call) → ltb 0 (step s c .effect .emptied) ≡ (eqb (callNumber s c) 0 && dueFor s c)
-unfolding step outcome
-step-emptied s c = outcome-emptied (callNumber s c) (inputBuffer c) s (callEffect s c) (dueFor s c) (effect-emptied s c)
+pub step-emptied : (s : Fortuna) (c : Entry) → ltb 0 (entryStep s c .effect .emptied) ≡ (eqb (entryNumber s c) 0 && dueFor s (c .call))
+unfolding entryStep outcome
+step-emptied s c =
+    outcome-emptied (entryNumber s c) (inputBuffer (c .call)) s (callEffect s (c .call)) (dueFor s (c .call)) (effect-emptied s (c .call))
 
-step-mark : (s : Fortuna) (c : Call) → step s c .effect .next .«last_reseed» ≡ cond (ltb 0 (step s c .effect .emptied)) (readingOf c) (s .«last_reseed»)
+step-mark : (s : Fortuna) (c : Entry) → entryStep s c .effect .next .«last_reseed» ≡ cond (ltb 0 (entryStep s c .effect .emptied)) (readingOf (c .call)) (s .«last_reseed»)
 step-mark s c =
     rw (step-emptied s c)
-    (unfold step outcome in outcome-mark (callNumber s c) (inputBuffer c) s (callEffect s c) (dueFor s c) (readingOf c) (effect-mark s c))
+    (unfold entryStep outcome in outcome-mark (entryNumber s c) (inputBuffer (c .call)) s (callEffect s (c .call)) (dueFor s (c .call)) (readingOf (c .call)) (effect-mark s (c .call)))
 
 -- a reseed is due only for a call that makes a request
 pub due-parts : (s : Fortuna) (c : Call) → dueFor s c ≡ true → (requests c ≡ true) × (due s (readingOf c) ≡ true)
@@ -223,18 +226,18 @@ due-whole s c h k = rw (h, k)
 -- ---- after every list of calls
 
 -- the flag says whether a pool reseed was made
-pub reseeded-after : (calls : List Call) → stateAfter calls .reseeded ≡ ltb 0 (reseedsAfter calls)
+pub reseeded-after : (calls : List Entry) → stateAfter calls .reseeded ≡ ltb 0 (reseedsAfter calls)
 reseeded-after calls =
     ap (λ (s : Fortuna). s .reseeded) (agrees calls .state)
     ∙ (unfold concrete in ap (λ (n : ℕ). ltb 0 n) (sym (reseeds-after calls (agrees calls .outcomes))))
 
-due-after : (calls : List Call) (clock : ℕ)
+due-after : (calls : List Entry) (clock : ℕ)
     → due (stateAfter calls) clock
     ≡ isDue (poolAt (stateAfter calls) 0 .length) (ltb 0 (reseedsAfter calls)) (stateAfter calls .«last_reseed») clock
 unfolding due
 due-after calls clock = ap (λ (made : Bool). isDue (poolAt (stateAfter calls) 0 .length) made (stateAfter calls .«last_reseed») clock) (reseeded-after calls)
 
-pub timer-step : (calls : List Call) (c : Call) → TimerStep calls c
+pub timer-step : (calls : List Entry) (c : Entry) → TimerStep calls c
 timer-step calls c = record { reseeds = (says, holds); mark = step-mark s c }
   where
     s : Fortuna
@@ -242,23 +245,25 @@ timer-step calls c = record { reseeds = (says, holds); mark = step-mark s c }
 
     Told : Type 0
     Told =
-        ((step (stateAfter calls) c .number ≡ 0) ⊎ (step (stateAfter calls) c .number ≡ 33)) × (requests c ≡ true)
+        ((entryStep (stateAfter calls) c .number ≡ 0) ⊎ (entryStep (stateAfter calls) c .number ≡ 33)) × (requests (c .call) ≡ true)
         × (64 ≤ poolAt (stateAfter calls) 0 .length)
-        × ((reseedsAfter calls ≡ 0) ⊎ ((e : ℕ) × Later (stateAfter calls .«last_reseed») e (readingOf c) × (100 < e)))
+        × ((reseedsAfter calls ≡ 0) ⊎ ((e : ℕ) × Later (stateAfter calls .«last_reseed») e (readingOf (c .call)) × (100 < e)))
 
-    says : 0 < step (stateAfter calls) c .effect .emptied → Told
+    says : 0 < entryStep (stateAfter calls) c .effect .emptied → Told
     says h =
         unfold Waited in
-        let p = both (eqb (callNumber (stateAfter calls) c) 0) (dueFor (stateAfter calls) c) (sym (step-emptied (stateAfter calls) c) ∙ lt-ltb 0 _ h) in
-        let k = due-parts (stateAfter calls) c (p .1) in
-        let told = sym (due-after calls (readingOf c)) ∙ k .1 in
-        let d = due-says (poolAt (stateAfter calls) 0 .length) (reseedsAfter calls) (stateAfter calls .«last_reseed») (readingOf c) told in
+        let made = sym (step-emptied (stateAfter calls) c) ∙ lt-ltb 0 _ h in
+        let p = both (eqb (entryNumber (stateAfter calls) c) 0) (dueFor (stateAfter calls) (c .call)) made in
+        let k = due-parts (stateAfter calls) (c .call) (p .1) in
+        let told = sym (due-after calls (readingOf (c .call))) ∙ k .1 in
+        let d = due-says (poolAt (stateAfter calls) 0 .length) (reseedsAfter calls) (stateAfter calls .«last_reseed») (readingOf (c .call)) told in
         (step-taken (stateAfter calls) c (eqb-true _ 0 (p .0)), k .0, d .0, d .1)
 
-    holds : Told → 0 < step (stateAfter calls) c .effect .emptied
+    holds : Told → 0 < entryStep (stateAfter calls) c .effect .emptied
     holds (n, k, size, w) =
         unfold Waited in
-        let waited = due-holds (poolAt (stateAfter calls) 0 .length) (reseedsAfter calls) (stateAfter calls .«last_reseed») (readingOf c) size w in
-        let d : due (stateAfter calls) (readingOf c) ≡ true = due-after calls (readingOf c) ∙ waited in
+        let clock = readingOf (c .call) in
+        let waited = due-holds (poolAt (stateAfter calls) 0 .length) (reseedsAfter calls) (stateAfter calls .«last_reseed») clock size w in
+        let d : due (stateAfter calls) clock ≡ true = due-after calls clock ∙ waited in
         let e = step-not-refused (stateAfter calls) c n in
-        ltb-true 0 _ (step-emptied (stateAfter calls) c ∙ rw (e, due-whole (stateAfter calls) c k d))
+        ltb-true 0 _ (step-emptied (stateAfter calls) c ∙ rw (e, due-whole (stateAfter calls) (c .call) k d))

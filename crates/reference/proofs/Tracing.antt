@@ -17,8 +17,10 @@ use Rattle.pools.specs.Events.{poolCount, eventBytes}
 use Rattle.pools.specs.Schedule.{used, usedPools}
 use Rattle.pools.specs.State.{poolAt, due}
 use Rattle.pools.specs.Effects.{Effect, unchanged, nextReseed, digests}
-use Rattle.pools.specs.Calls.{Call, event, readingOf, inputBuffer, Outcome, effectOf, outcome, callNumber, step, stateFrom, stateAfter}
-use Rattle.reference.specs.Reference.{Accepted, Reference, empty, select, pending, consumedAt, contents, poolContents, appendEvent, referenceReseed, referenceNumber, referenceEffect, referenceStep, referenceAfter}
+use Rattle.pools.specs.Calls.{Call, event, readingOf, inputBuffer, Outcome, effectOf, outcome, stateFrom}
+use Rattle.quotas.specs.Entries.{Entry, entryNumber, entryStep}
+use Rattle.reference.specs.Runs.{stateAfter}
+use Rattle.reference.specs.Reference.{Accepted, Reference, empty, select, pending, consumedAt, contents, poolContents, appendEvent, referenceReseed, referenceNumber, referenceEffect, referenceStep, referenceAfter, referenceEntryNumber}
 use Rattle.reference.specs.Agreement.{concrete, concreteOutcome}
 use Rattle.reference.specs.Timer.{requests}
 use Rattle.reference.specs.Provenance.{Piece, PoolUse, erased, Traced, tracedFresh, dueFor, putsInto, useOf, nextUses, tracedReseed, tracedAccepted, tracedStep, tracedFrom, traced, pieceOf, scheduledUse, scheduledUses}
@@ -29,7 +31,7 @@ use Rattle.reference.proofs.Concrete.{pool-concrete, due-concrete}
 use Rattle.reference.proofs.Simulation.{used-concrete, used-pools-concrete}
 use Rattle.reference.proofs.Moves.{Moved, reseed-moves}
 use Rattle.reference.proofs.Advances.{Shape, appended, moved, dueCall, effect-shape}
-use Rattle.reference.proofs.Agreement.{number-agrees, step-agrees, step-sound, fresh-concrete}
+use Rattle.reference.proofs.Agreement.{entry-agrees, step-agrees, step-sound, fresh-concrete}
 
 -- ---- pieces
 
@@ -223,32 +225,32 @@ outcome-tags b buffer zero done t m h k = k refl
 outcome-tags b buffer (suc n) done t m h k = rw (eqb·suc-zero n) h
 
 step-tied :
-    (place : ℕ) (t : Traced) (b : Reference) → Sound b → Tied t b → (c : Call) →
+    (place : ℕ) (t : Traced) (b : Reference) → Sound b → Tied t b → (c : Entry) →
     Tied (tracedStep place t c) (referenceStep place b c .effect .next)
 step-tied place t b s tied c =
     record {
       state =
           unfold tracedStep concreteOutcome in
-          ap (λ (o : Outcome Fortuna). o .effect .next) (ap (λ (x : Fortuna). step x c) (tied .state) ∙ step-agrees place b s c);
+          ap (λ (o : Outcome Fortuna). o .effect .next) (ap (λ (x : Fortuna). entryStep x c) (tied .state) ∙ step-agrees place b s c);
       tags = unfold tracedStep in record { reseeds = after .reseeds; pieces = after .pieces; uses = after .uses };
     }
   where
-    same-number : callNumber (t .state) c ≡ referenceNumber b c
-    same-number = ap (λ (x : Fortuna). callNumber x c) (tied .state) ∙ number-agrees b s c
+    same-number : entryNumber (t .state) c ≡ referenceEntryNumber b c
+    same-number = ap (λ (x : Fortuna). entryNumber x c) (tied .state) ∙ entry-agrees b s c
 
-    after : Tags (cond (eqb (callNumber (t .state) c) 0) (tracedAccepted place t c) t) (referenceStep place b c .effect .next)
+    after : Tags (cond (eqb (entryNumber (t .state) c) 0) (tracedAccepted place t (c .call)) t) (referenceStep place b c .effect .next)
     after =
         subst
-        (λ (n : ℕ). Tags (cond (eqb n 0) (tracedAccepted place t c) t) (referenceStep place b c .effect .next))
+        (λ (n : ℕ). Tags (cond (eqb n 0) (tracedAccepted place t (c .call)) t) (referenceStep place b c .effect .next))
         (sym same-number)
         (unfold referenceStep outcome in
-        outcome-tags b (inputBuffer c) (referenceNumber b c) (referenceEffect place b c) t _ (tied .tags)
-        (λ e. shape-tags place t b s tied c _ (effect-shape place b c)))
+        outcome-tags b (inputBuffer (c .call)) (referenceEntryNumber b c) (referenceEffect place b (c .call)) t _ (tied .tags)
+        (λ e. shape-tags place t b s tied (c .call) _ (effect-shape place b (c .call))))
 
 -- ---- every run
 
 from-tied :
-    (calls : List Call) (place : ℕ) (t : Traced) (b : Reference) → Sound b → Tied t b →
+    (calls : List Entry) (place : ℕ) (t : Traced) (b : Reference) → Sound b → Tied t b →
     Tied (tracedFrom place t calls) (stateFrom referenceStep place b calls)
 unfolding tracedFrom stateFrom
 from-tied [] place t b s tied = tied
@@ -263,17 +265,17 @@ fresh-tied =
       tags = unfold empty select scheduledUses in record { reseeds = refl; pieces = λ i h. refl; uses = refl };
     }
 
-pub run-tied : (calls : List Call) → Tied (traced calls) (referenceAfter calls)
+pub run-tied : (calls : List Entry) → Tied (traced calls) (referenceAfter calls)
 unfolding traced referenceAfter
 run-tied calls = from-tied calls 0 tracedFresh empty sound-empty fresh-tied
 
 -- the traced station's state is the station's
 from-state :
-    (calls : List Call) (place : ℕ) (t : Traced) → tracedFrom place t calls .state ≡ stateFrom (λ place. step) place (t .state) calls
+    (calls : List Entry) (place : ℕ) (t : Traced) → tracedFrom place t calls .state ≡ stateFrom (λ place. entryStep) place (t .state) calls
 unfolding tracedFrom stateFrom
 from-state [] place t = refl
 from-state (c ∷ calls) place t = from-state calls (suc place) (tracedStep place t c) ∙ (unfold tracedStep in refl)
 
-pub run-state : (calls : List Call) → traced calls .state ≡ stateAfter calls
+pub run-state : (calls : List Entry) → traced calls .state ≡ stateAfter calls
 unfolding traced stateAfter
 run-state calls = from-state calls 0 tracedFresh ∙ (unfold tracedFresh in refl)

@@ -12,7 +12,7 @@ use Rattle.laws.specs.Lists.{joined}
 use Rattle.laws.proofs.Cases.{by-test, both}
 use Rattle.pools.specs.Events.{poolCount}
 use Rattle.pools.specs.Schedule.{used, usedBelow, usedPools}
-use Rattle.pools.specs.Calls.{Call}
+use Rattle.quotas.specs.Entries.{Entry}
 use Rattle.reference.specs.Reference.{Accepted, scheduled, select, consumedAt}
 use Rattle.reference.specs.Provenance.{Piece, PoolUse, traced, pieceOf, scheduledUse, scheduledUses, EntersAt}
 use Rattle.reference.proofs.Schedule.{scheduled-later, scheduled-used}
@@ -148,7 +148,7 @@ pub record Booked (es : List Accepted) (r place n i : ℕ) (p : Piece) : Type 0 
   pub reached : n ≤ r
   pub piece : p ≡ pieceOf event
 
-module _ (calls : List Call) (es : List Accepted) (r : ℕ) (uses : traced calls .uses ≡ scheduledUses es r) where
+module _ (calls : List Entry) (es : List Accepted) (r : ℕ) (uses : traced calls .uses ≡ scheduledUses es r) where
   -- what enters was booked
   pub entering-booked : (place n i : ℕ) (a : EntersAt calls place n i) → Booked es r place n i (a .piece)
   unfolding scheduledUse consumedAt pieceOf

@@ -11,7 +11,10 @@ use Rattle.pools.specs.declared.Fortuna.{Fortuna}
 use Rattle.pools.specs.Events.{poolCount}
 use Rattle.pools.specs.Schedule.{maxKeyRequests}
 use Rattle.pools.specs.State.{fresh}
-use Rattle.pools.specs.Calls.{Call, Outcome, step, run, stateAfter}
+use Rattle.pools.specs.Calls.{Outcome}
+use Rattle.quotas.specs.Entries.{Entry, entryStep}
+use Rattle.reference.specs.Runs.{run, stateAfter, listsLeft}
+use Rattle.reference.specs.ReferenceLists.{listsAfter}
 use Rattle.reference.specs.Reference.{Reference, empty, poolContents, referenceRun, referenceAfter}
 
 -- the state that the model says: its K, C and mark, R modulo 2^32, the flag set exactly when R is above 0, the requests on the key up to
@@ -44,12 +47,14 @@ concreteOutcome o =
 -- a run is its calls' steps, each from the state that the last one left, and nothing at the empty list
 pub record RunIsSteps : Type 0 where
   pub none : run [] ≡ []
-  pub more : (calls : List Call) (c : Call) → run (calls ++ (c ∷ [])) ≡ run calls ++ (step (stateAfter calls) c ∷ [])
+  pub more : (calls : List Entry) (c : Entry) → run (calls ++ (c ∷ [])) ≡ run calls ++ (entryStep (stateAfter calls) c ∷ [])
   pub start : stateAfter [] ≡ fresh
-  pub left : (calls : List Call) (c : Call) → stateAfter (calls ++ (c ∷ [])) ≡ step (stateAfter calls) c .effect .next
+  pub left : (calls : List Entry) (c : Entry) → stateAfter (calls ++ (c ∷ [])) ≡ entryStep (stateAfter calls) c .effect .next
 
 -- numbers, values drawn, counts, buffers, states left and traces are the model's, and so are the fresh state and the state at the end
-pub record Agrees (calls : List Call) : Type 0 where
+pub record Agrees (calls : List Entry) : Type 0 where
   pub fresh-state : fresh ≡ concrete empty
   pub outcomes : run calls ≡ map concreteOutcome (referenceRun calls)
+  -- the lists that the calls return are those that the model says
+  pub lists : listsLeft calls (run calls) ≡ listsAfter calls (referenceRun calls)
   pub state : stateAfter calls ≡ concrete (referenceAfter calls)

@@ -8,8 +8,10 @@ use lib.Dec.{eqb}
 use lib.ListN.{length, getD}
 use Rattle.laws.specs.Lists.{joined}
 use Rattle.pools.specs.declared.Fortuna.{Fortuna}
-use Rattle.pools.specs.Calls.{Call, event, request, update, write, draw, shuffle, Outcome, run, stateAfter}
+use Rattle.pools.specs.Calls.{Call, event, request, update, write, draw, shuffle, Outcome}
 use Rattle.pools.specs.State.{counterOf}
+use Rattle.quotas.specs.Entries.{Entry}
+use Rattle.reference.specs.Runs.{run, stateAfter}
 use Rattle.reference.specs.Timer.{reseedsAfter}
 
 -- no element stands at two places
@@ -17,7 +19,7 @@ abbrev pub NoRepeat : List (List ℕ) → Type 0
 NoRepeat l = (i j : ℕ) → i < j → j < length l → getD l i [] ≡ getD l j [] → ⊥
 
 -- the counter blocks of a run, in the order of its Block steps
-unfoldable pub counterBlocks : List Call → List (List ℕ)
+unfoldable pub counterBlocks : List Entry → List (List ℕ)
 counterBlocks calls = joined (λ (o : Outcome Fortuna). o .effect .trace) (run calls)
 
 -- the accepted updates of a run, each of which reseeds the generator with its seed
@@ -29,11 +31,11 @@ isUpdate (write clock seed) = false
 isUpdate (draw clock n d) = false
 isUpdate (shuffle clock list) = false
 
-unfoldable pub seedsIn : {S : Type 0} → List Call → List (Outcome S) → ℕ
+unfoldable pub seedsIn : {S : Type 0} → List Entry → List (Outcome S) → ℕ
 seedsIn [] os = 0
 seedsIn (c ∷ cs) [] = 0
-seedsIn (c ∷ cs) (o ∷ os) = cond (isUpdate c && eqb (o .number) 0) 1 0 + seedsIn cs os
+seedsIn (c ∷ cs) (o ∷ os) = cond (isUpdate (c .call) && eqb (o .number) 0) 1 0 + seedsIn cs os
 
 -- the trace is whole: C, which starts at 0, counts each of its blocks, each pool reseed and each seed
-abbrev pub Counted : List Call → Type 0
+abbrev pub Counted : List Entry → Type 0
 Counted calls = counterOf (stateAfter calls) ≡ length (counterBlocks calls) + (reseedsAfter calls + seedsIn calls (run calls))

@@ -1,9 +1,13 @@
+pub mod ReferenceLists
 pub mod Reference
+pub mod Runs
 pub mod Agreement
 pub mod Timer
 pub mod Counters
 pub mod KeyRequests
+pub mod BlankPages
 pub mod Provenance
 pub mod Correct
 pub mod Readings
 pub mod Boundaries
+pub mod QuotaRows

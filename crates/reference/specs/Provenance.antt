@@ -19,7 +19,9 @@ use Rattle.pools.specs.State.{fresh, poolAt, due}
 use Rattle.pools.specs.Refusals.{seedSize}
 use Rattle.pools.specs.Effects.{Effect, unchanged, nextReseed, digests, poolReseed, reseedWithSeed}
 use Rattle.pools.specs.Draws.{Drawn, trySize, tries, shuffled}
-use Rattle.pools.specs.Calls.{Call, event, request, update, write, draw, shuffle, readingOf, callNumber, Outcome, step, stateAfter}
+use Rattle.pools.specs.Calls.{Call, event, request, update, write, draw, shuffle, readingOf, Outcome}
+use Rattle.quotas.specs.Entries.{Quotas, Entry, taking, entryNumber, entryStep}
+use Rattle.reference.specs.Runs.{stateAfter}
 use Rattle.reference.specs.Reference.{Accepted, select, consumedAt, referenceAfter}
 use Rattle.reference.specs.Timer.{requests, reseedsAfter}
 
@@ -88,22 +90,22 @@ tracedAccepted place t c =
     record { state = r .state; reseeds = r .reseeds; pieces = λ i. r .pieces i ++ putsInto place c i; uses = r .uses }
 
 -- the station's step, and the pieces' beside it
-unfoldable pub tracedStep : ℕ → Traced → Call → Traced
+unfoldable pub tracedStep : ℕ → Traced → Entry → Traced
 tracedStep place t c =
-    let r = cond (eqb (callNumber (t .state) c) 0) (tracedAccepted place t c) t in
-    record { state = step (t .state) c .effect .next; reseeds = r .reseeds; pieces = r .pieces; uses = r .uses }
+    let r = cond (eqb (entryNumber (t .state) c) 0) (tracedAccepted place t (c .call)) t in
+    record { state = entryStep (t .state) c .effect .next; reseeds = r .reseeds; pieces = r .pieces; uses = r .uses }
 
-unfoldable pub tracedFrom : ℕ → Traced → List Call → Traced
+unfoldable pub tracedFrom : ℕ → Traced → List Entry → Traced
 tracedFrom place t [] = t
 tracedFrom place t (c ∷ cs) = tracedFrom (suc place) (tracedStep place t c) cs
 
-unfoldable pub traced : List Call → Traced
+unfoldable pub traced : List Entry → Traced
 traced calls = tracedFrom 0 tracedFresh calls
 
 -- ---- erasing the tags gives the station's own
 
 -- each pool is the running hash of its pieces' bytes, and the next pool reseed hashes those very strings
-pub record Faithful (calls : List Call) : Type 0 where
+pub record Faithful (calls : List Entry) : Type 0 where
   pub state : traced calls .state ≡ stateAfter calls
   pub reseeds : traced calls .reseeds ≡ reseedsAfter calls
   pub strings : (i : ℕ) → i < poolCount → poolAt (stateAfter calls) i ≡ poolOf (erased (traced calls .pieces i))
@@ -135,7 +137,7 @@ madeFrom w (draw clock n d) = tries (served trySize) n d w
 madeFrom w (shuffle clock list) = shuffled (served trySize) list w
 
 -- the generator that a call's pool reseed leaves: K becomes D(K followed by the D of the strings)
-unfoldable pub reseededBy : List Call → Call → Generator
+unfoldable pub reseededBy : List Entry → Call → Generator
 reseededBy calls c =
     encode (reseed (decode (atReseed (stateAfter calls) c .generator)) (joined (λ u. D (erased (u .pieces))) (nextUses (traced calls))))
 
@@ -148,14 +150,14 @@ pub record TakenFrom (made : Drawn GeneratorState) (o : Outcome Fortuna) : Type 
 
 -- the call c after these: where it makes a pool reseed, the uses grow by that reseed's, whose strings are the ones hashed into the key,
 -- and its answer and its next K and C come from that key; where it makes none, the uses stay
-pub record EntersKey (calls : List Call) (c : Call) : Type 0 where
+pub record EntersKey (calls : List Entry) (c : Entry) : Type 0 where
   pub grows :
       traced (calls ++ (c ∷ [])) .uses
-      ≡ traced calls .uses ++ cond (ltb 0 (step (stateAfter calls) c .effect .emptied)) (nextUses (traced calls)) []
-  pub key : poolReseed (atReseed (stateAfter calls) c) (readingOf c) .generator ≡ reseededBy calls c
+      ≡ traced calls .uses ++ cond (ltb 0 (entryStep (stateAfter calls) c .effect .emptied)) (nextUses (traced calls)) []
+  pub key : poolReseed (atReseed (stateAfter calls) (c .call)) (readingOf (c .call)) .generator ≡ reseededBy calls (c .call)
   pub taken :
-      callNumber (stateAfter calls) c ≡ 0 → dueFor (stateAfter calls) c ≡ true →
-      TakenFrom (madeFrom (decode (reseededBy calls c)) c) (step (stateAfter calls) c)
+      entryNumber (stateAfter calls) c ≡ 0 → dueFor (stateAfter calls) (c .call) ≡ true →
+      TakenFrom (madeFrom (decode (reseededBy calls (c .call))) (c .call)) (entryStep (stateAfter calls) c)
 
 -- ---- what the schedule says
 
@@ -174,7 +176,7 @@ scheduledUses es (suc n) = scheduledUses es n ++ joined (scheduledUse es (suc n)
 -- ---- when an event enters
 
 -- the bytes that the call at a place put into pool i stand in the string whose D the pool gives to reseed n
-pub record EntersAt (calls : List Call) (place n i : ℕ) : Type 0 where
+pub record EntersAt (calls : List Entry) (place n i : ℕ) : Type 0 where
   pub poolUse : PoolUse
   pub made : List·Memᴰ poolUse (traced calls .uses)
   pub reseedNumber : poolUse .reseedNumber ≡ n
@@ -185,34 +187,34 @@ pub record EntersAt (calls : List Call) (place n i : ℕ) : Type 0 where
 
 -- an event of a list: accepted, it enters through its pool at reseed 2^i × (floor(r / 2^i) + 1), r the pool reseeds made before it,
 -- if the run reaches that, and at no other, and what enters are its own bytes; refused, it never enters
-pub record EventEnters (before : List Call) (source pool : ℕ) (content : List ℕ) (later : List Call) : Type 0 where
+pub record EventEnters (before : List Entry) (q : Quotas) (source pool : ℕ) (content : List ℕ) (later : List Entry) : Type 0 where
   pub once :
-      callNumber (stateAfter before) (event source pool content) ≡ 0 → (n i : ℕ) →
-      EntersAt (before ++ (event source pool content ∷ later)) (length before) n i
+      entryNumber (stateAfter before) (taking q (event source pool content)) ≡ 0 → (n i : ℕ) →
+      EntersAt (before ++ (taking q (event source pool content) ∷ later)) (length before) n i
       ↔ ((i ≡ pool) × (n ≡ 2 ^ pool * (reseedsAfter before / 2 ^ pool + 1))
-      × (n ≤ reseedsAfter (before ++ (event source pool content ∷ later))))
+      × (n ≤ reseedsAfter (before ++ (taking q (event source pool content) ∷ later))))
   pub own :
-      callNumber (stateAfter before) (event source pool content) ≡ 0 → (n i : ℕ) →
-      (e : EntersAt (before ++ (event source pool content ∷ later)) (length before) n i) → e .piece .bytes ≡ eventBytes source content
+      entryNumber (stateAfter before) (taking q (event source pool content)) ≡ 0 → (n i : ℕ) →
+      (e : EntersAt (before ++ (taking q (event source pool content) ∷ later)) (length before) n i) → e .piece .bytes ≡ eventBytes source content
   pub never :
-      (callNumber (stateAfter before) (event source pool content) ≡ 0 → ⊥) → (n i : ℕ) →
-      EntersAt (before ++ (event source pool content ∷ later)) (length before) n i → ⊥
+      (entryNumber (stateAfter before) (taking q (event source pool content)) ≡ 0 → ⊥) → (n i : ℕ) →
+      EntersAt (before ++ (taking q (event source pool content) ∷ later)) (length before) n i → ⊥
 
 -- a call that is no event never enters
-abbrev pub NoEvent : Call → Type 0
-NoEvent c = (source pool : ℕ) (content : List ℕ) → c ≡ event source pool content → ⊥
+abbrev pub NoEvent : Entry → Type 0
+NoEvent c = (source pool : ℕ) (content : List ℕ) → c .call ≡ event source pool content → ⊥
 
-abbrev pub OthersNever : List Call → Call → List Call → Type 0
+abbrev pub OthersNever : List Entry → Entry → List Entry → Type 0
 OthersNever before c later = NoEvent c → (n i : ℕ) → EntersAt (before ++ (c ∷ later)) (length before) n i → ⊥
 
 -- ---- the claim about a list of calls
-pub record Provenance (calls : List Call) : Type 0 where
+pub record Provenance (calls : List Entry) : Type 0 where
   -- what each pool gave to each reseed is what was booked for it, in arrival order
   pub uses : traced calls .uses ≡ scheduledUses (referenceAfter calls .events) (referenceAfter calls .reseeds)
   pub faithful : Faithful calls
   -- each call of the list, by where it stands
-  pub key : (before : List Call) (c : Call) (later : List Call) → before ++ (c ∷ later) ≡ calls → EntersKey before c
+  pub key : (before : List Entry) (c : Entry) (later : List Entry) → before ++ (c ∷ later) ≡ calls → EntersKey before c
   pub events :
-      (before : List Call) (source pool : ℕ) (content : List ℕ) (later : List Call) →
-      before ++ (event source pool content ∷ later) ≡ calls → EventEnters before source pool content later
-  pub others : (before : List Call) (c : Call) (later : List Call) → before ++ (c ∷ later) ≡ calls → OthersNever before c later
+      (before : List Entry) (q : Quotas) (source pool : ℕ) (content : List ℕ) (later : List Entry) →
+      before ++ (taking q (event source pool content) ∷ later) ≡ calls → EventEnters before q source pool content later
+  pub others : (before : List Entry) (c : Entry) (later : List Entry) → before ++ (c ∷ later) ≡ calls → OthersNever before c later

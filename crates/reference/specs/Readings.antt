@@ -13,6 +13,7 @@ use Rattle.pools.specs.declared.Fortuna.{Fortuna}
 use Rattle.pools.specs.State.{fresh, poolAt, counterOf}
 use Rattle.pools.specs.Effects.{randomData}
 use Rattle.pools.specs.Calls.{Call, event, request, update, Outcome, step, run}
+use Rattle.quotas.specs.Entries.{without, taking}
 use Rattle.reference.specs.Reference.{scheduled, referenceStep}
 
 -- a pool that holds n bytes in whole blocks
@@ -100,7 +101,7 @@ SpentRow = map (λ (c : ℕ). step (seededState c) (request 0 []) .number) ((2 ^
 unfoldable pub bookedAfter : ℕ → List ℕ
 bookedAfter r =
     map scheduled
-    (referenceStep 0 (record { generator = initial; lastReseed = 0; reseeds = r; events = []; keyRequests = 0 }) (event 7 2 (0xa1 ∷ [])) .effect .next .events)
+    (referenceStep 0 (record { generator = initial; lastReseed = 0; reseeds = r; events = []; keyRequests = 0 }) (taking without (event 7 2 (0xa1 ∷ []))) .effect .next .events)
 
 -- pool 2, an event after reseed 5 enters at 8, after reseed 8 at 12
 abbrev pub ScheduleRow : Type 0

@@ -2,7 +2,8 @@
 -- its answers. Text that it shares with the station is invisible to agreement, so rows and laws check it by itself (docs/PROOFS.md, 'What
 -- model and station share'): the refusal chains over plain values, with `seedSize`; `eventBytes`; `usedPools`; `D`, and the generator's
 -- `initial` and `reseed`; the rule of draws and shuffles, `tries` and `shuffled`, with `trySize`; and what a call and a run are,
--- `inputBuffer`, `unchanged`, `effectOf`, `outcome`, `runFrom`, `stateFrom`. The generator's request it takes in closed form.
+-- `inputNumber`, `andThen`, `inputBuffer`, `unchanged`, `effectOf`, `outcome`, `runFrom`, `stateFrom`. The generator's request it takes in
+-- closed form, and a list of quotas record by record (ReferenceLists.antt).
 -- Assumes nothing.
 use mathlib.Core.Bool.{Bool, true, false, cond, _&&_, _||_}
 use mathlib.Core.List.{List, [], _∷_, _++_}
@@ -15,10 +16,12 @@ use Rattle.generator.specs.Steps.{GeneratorState, initial, reseed}
 use Rattle.generator.specs.Closed.{closedRandomData}
 use Rattle.pools.specs.Events.{eventBytes}
 use Rattle.pools.specs.Schedule.{usedPools}
-use Rattle.pools.specs.Refusals.{seedSize, eventNumber, requestNumber, writeNumber, updateNumber, drawNumber, shuffleNumber}
+use Rattle.pools.specs.Refusals.{andThen, seedSize, eventNumber, requestNumber, writeNumber, updateNumber, drawNumber, shuffleNumber}
 use Rattle.pools.specs.Effects.{Effect}
 use Rattle.pools.specs.Draws.{trySize, tries, shuffled}
-use Rattle.pools.specs.Calls.{Call, event, request, update, write, draw, shuffle, inputBuffer, Outcome, outcome, runFrom, stateFrom}
+use Rattle.pools.specs.Calls.{Call, event, request, update, write, draw, shuffle, inputBuffer, inputNumber, Outcome, outcome, runFrom, stateFrom}
+use Rattle.quotas.specs.Entries.{Entry}
+use Rattle.reference.specs.ReferenceLists.{byRecords}
 
 -- an accepted event: the place of its call in the list, its pool, the bytes that the pool gained, and its r, the R at that moment
 pub record Accepted : Type 0 where
@@ -167,12 +170,17 @@ referenceValue b (write clock seed) = 0
 referenceValue b (draw clock n d) = tries (referenceTry clock) n d b .value
 referenceValue b (shuffle clock list) = 0
 
-unfoldable pub referenceStep : ℕ → Reference → Call → Outcome Reference
-referenceStep place b c =
-    outcome (referenceNumber b c) (referenceFound b c) (referenceValue b c) (inputBuffer c) b (referenceEffect place b c)
+-- a call with its list, or without one: the list's numbers stand after the input's
+unfoldable pub referenceEntryNumber : Reference → Entry → ℕ
+referenceEntryNumber b e = andThen (inputNumber (e .call)) (andThen (byRecords (e .quotas) (e .call)) (referenceNumber b (e .call)))
 
-unfoldable pub referenceRun : List Call → List (Outcome Reference)
+unfoldable pub referenceStep : ℕ → Reference → Entry → Outcome Reference
+referenceStep place b e =
+    let c = e .call in
+    outcome (referenceEntryNumber b e) (referenceFound b c) (referenceValue b c) (inputBuffer c) b (referenceEffect place b c)
+
+unfoldable pub referenceRun : List Entry → List (Outcome Reference)
 referenceRun calls = runFrom referenceStep 0 empty calls
 
-unfoldable pub referenceAfter : List Call → Reference
+unfoldable pub referenceAfter : List Entry → Reference
 referenceAfter calls = stateFrom referenceStep 0 empty calls

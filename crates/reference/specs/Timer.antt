@@ -10,14 +10,16 @@ use lib.ListN.{length}
 use Rattle.pools.specs.declared.Fortuna.{Fortuna}
 use Rattle.pools.specs.Schedule.{elapsed}
 use Rattle.pools.specs.State.{poolAt}
-use Rattle.pools.specs.Calls.{Call, event, request, update, write, draw, shuffle, readingOf, Outcome, step, run, stateAfter}
+use Rattle.pools.specs.Calls.{Call, event, request, update, write, draw, shuffle, readingOf, Outcome}
+use Rattle.quotas.specs.Entries.{Entry, entryStep}
+use Rattle.reference.specs.Runs.{run, stateAfter}
 
 -- the pool reseeds made in a run: the calls that emptied a pool
 unfoldable pub poolReseeds : List (Outcome Fortuna) → ℕ
 poolReseeds [] = 0
 poolReseeds (o ∷ os) = cond (ltb 0 (o .effect .emptied)) 1 0 + poolReseeds os
 
-unfoldable pub reseedsAfter : List Call → ℕ
+unfoldable pub reseedsAfter : List Entry → ℕ
 reseedsAfter calls = poolReseeds (run calls)
 
 -- whether a call makes a request, or several
@@ -38,14 +40,14 @@ abbrev pub ElapsedLaw : Type 0
 ElapsedLaw = (reading mark : ℕ) → Later mark (elapsed reading mark) reading
 
 -- the call c after these
-pub record TimerStep (calls : List Call) (c : Call) : Type 0 where
+pub record TimerStep (calls : List Entry) (c : Entry) : Type 0 where
   -- it empties pools exactly if it is not refused (33 comes after its tries), makes a request, pool 0 holds 64 bytes or more, and no
   -- reseed was made yet or more than 100 ms went by since the last
   pub reseeds :
-      (0 < step (stateAfter calls) c .effect .emptied)
-      ↔ (((step (stateAfter calls) c .number ≡ 0) ⊎ (step (stateAfter calls) c .number ≡ 33)) × (requests c ≡ true) × (64 ≤ poolAt (stateAfter calls) 0 .length)
-      × ((reseedsAfter calls ≡ 0) ⊎ ((e : ℕ) × Later (stateAfter calls .«last_reseed») e (readingOf c) × (100 < e))))
+      (0 < entryStep (stateAfter calls) c .effect .emptied)
+      ↔ (((entryStep (stateAfter calls) c .number ≡ 0) ⊎ (entryStep (stateAfter calls) c .number ≡ 33)) × (requests (c .call) ≡ true) × (64 ≤ poolAt (stateAfter calls) 0 .length)
+      × ((reseedsAfter calls ≡ 0) ⊎ ((e : ℕ) × Later (stateAfter calls .«last_reseed») e (readingOf (c .call)) × (100 < e))))
   -- the mark moves exactly then, to the reading
   pub mark :
-      step (stateAfter calls) c .effect .next .«last_reseed»
-      ≡ cond (ltb 0 (step (stateAfter calls) c .effect .emptied)) (readingOf c) (stateAfter calls .«last_reseed»)
+      entryStep (stateAfter calls) c .effect .next .«last_reseed»
+      ≡ cond (ltb 0 (entryStep (stateAfter calls) c .effect .emptied)) (readingOf (c .call)) (stateAfter calls .«last_reseed»)
