@@ -43,8 +43,8 @@ from cutoffs import usable
 from editions import BlankLogbook, OneByteLogbook
 from frames import HEADER, MOST_DATA, Noise, blank_page, event, log_of, nearly_blank, request, update, wide_event, write
 from logbook import MOST_TOLD, Event, Logbook, answer, booked, call_of, lines as lines_of
+from metered_logbook import MeteredLogbook
 from program import Failure, compare, run, shortened
-from quotas import MeteredLogbook
 
 KEY = 32  # bytes of a key drawn
 REPLY = re.compile(rb"\d\d( \d\d( [0-9A-F]+)?)?")

@@ -31,8 +31,8 @@ from generator import State, sha_d256
 from health import Health
 from logbook import Event, Logbook, booked
 from logs import LOGS
+from metered_logbook import MeteredLogbook
 from program import Failure
-from quotas import MeteredLogbook
 from sha256 import INITIAL, compress, finish
 
 
