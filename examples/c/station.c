@@ -402,7 +402,8 @@ typedef struct {
     fortuna_quota quotas[INSTRUMENTS];
 } metered;
 
-/* An instrument, and how many of its events were taken and refused. */
+/* An instrument, and how many of its events were taken and refused. Health tests and ring buffer are left out here: a
+   device has them with a list as without. */
 typedef struct {
     const char *name;
     uint32_t number, taken, refused;

@@ -283,7 +283,8 @@ fn start_twice() -> Result<(), Refusal> {
     Ok(())
 }
 
-/// An instrument, and how many of its events were taken and refused.
+/// An instrument, and how many of its events were taken and refused. Health tests are left out here: a device has them
+/// with a list as without.
 struct Instrument {
     name: &'static str,
     number: u32,
