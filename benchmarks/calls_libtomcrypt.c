@@ -28,6 +28,26 @@ bool call_update(uint8_t seed[64]) {
     return false;
 }
 
+/* It has no quotas. */
+bool call_quotas(size_t records, bool falling) {
+    (void)records;
+    (void)falling;
+    return false;
+}
+
+bool call_metered_event(uint32_t source, uint32_t pool, const uint8_t data[32]) {
+    (void)source;
+    (void)pool;
+    (void)data;
+    return false;
+}
+
+bool call_metered_request(uint8_t *out, size_t length) {
+    (void)out;
+    (void)length;
+    return false;
+}
+
 void pool_sum(uint32_t sum[8]) {
     for (int i = 0; i < 32; i++)
         for (int j = 0; j < 8; j++) sum[j] += state.fortuna.pool[i].sha256.state[j];

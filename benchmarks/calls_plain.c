@@ -2,6 +2,8 @@
 #include "plain_fortuna.h"
 
 static plain_state state;
+static plain_quota quotas[PLAIN_QUOTAS];
+static size_t listed;
 static uint32_t reading = 1000;
 
 bool call_new(void) {
@@ -30,6 +32,22 @@ bool call_request(uint8_t *out, size_t length) {
 bool call_update(uint8_t seed[64]) {
     uint32_t emptied;
     return plain_update(&state, reading, seed, 64, &emptied) == 0 && emptied == 0;
+}
+
+bool call_quotas(size_t records, bool falling) {
+    listed = records;
+    for (uint32_t i = 0; i < records; i++)
+        quotas[i] = (plain_quota){.source = falling ? (uint32_t)records - 1 - i : i, .allowance = UINT32_MAX};
+    return true;
+}
+
+bool call_metered_event(uint32_t source, uint32_t pool, const uint8_t data[32]) {
+    return plain_metered_event(&state, quotas, listed, source, pool, data, 32) == 0;
+}
+
+bool call_metered_request(uint8_t *out, size_t length) {
+    uint32_t emptied;
+    return plain_metered_request(&state, quotas, listed, reading, out, length, &emptied) == 0 && emptied == 0;
 }
 
 void pool_sum(uint32_t sum[8]) {

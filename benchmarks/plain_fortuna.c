@@ -208,13 +208,54 @@ static uint32_t random_data(plain_state *s, uint32_t clock, uint8_t *out, size_t
     return emptied;
 }
 
+/* ---- quotas */
+
+/* Sources that rise repeat none, so that one pass will do. */
+static bool rising(const plain_quota *quotas, size_t records)
+{
+    for (size_t i = 1; i < records; i++)
+        if (quotas[i].source <= quotas[i - 1].source) return false;
+    return true;
+}
+
+static bool repeated(const plain_quota *quotas, size_t records)
+{
+    for (size_t i = 1; i < records; i++)
+        for (size_t j = 0; j < i; j++)
+            if (quotas[i].source == quotas[j].source) return true;
+    return false;
+}
+
+static bool malformed_quotas(const plain_quota *quotas, size_t records)
+{
+    if (records > PLAIN_QUOTAS) return true;
+    for (size_t i = 0; i < records; i++)
+        if (quotas[i].spent > quotas[i].allowance) return true;
+    return !rising(quotas, records) && repeated(quotas, records);
+}
+
+/* The source's record; null where it has none. */
+static plain_quota *quota_of(plain_quota *quotas, size_t records, uint32_t source)
+{
+    for (size_t i = 0; i < records; i++)
+        if (quotas[i].source == source) return &quotas[i];
+    return NULL;
+}
+
 /* ---- the calls */
 
-uint32_t plain_event(plain_state *s, uint32_t source, uint32_t pool, const uint8_t *data, size_t length)
+/* 11 to 13. */
+static uint32_t event_input(uint32_t source, uint32_t pool, size_t length)
 {
     if (source > 65535) return 11;
     if (pool >= PLAIN_POOLS) return 12;
-    if (length == 0 || length > PLAIN_DATA) return 13;
+    return length == 0 || length > PLAIN_DATA ? 13 : 0;
+}
+
+uint32_t plain_event(plain_state *s, uint32_t source, uint32_t pool, const uint8_t *data, size_t length)
+{
+    uint32_t number = event_input(source, pool, length);
+    if (number != 0) return number;
     if (malformed(s)) return 21;
     if (s->pools[pool].length + PLAIN_HEADER + length > max_pool_length) return 22;
     uint8_t bytes[PLAIN_HEADER + PLAIN_DATA] = {(uint8_t)source, (uint8_t)(source >> 8), (uint8_t)length};
@@ -250,5 +291,30 @@ uint32_t plain_write(plain_state *s, uint32_t clock, uint8_t *seed, size_t lengt
     if (length != PLAIN_SEED) return 15;
     uint32_t number = state_refusal(s, clock, blocks_for(length));
     if (number == 0) *emptied = random_data(s, clock, seed, length);
+    return number;
+}
+
+uint32_t plain_metered_event(plain_state *s, plain_quota *quotas, size_t records, uint32_t source, uint32_t pool,
+                             const uint8_t *data, size_t length)
+{
+    uint32_t number = event_input(source, pool, length);
+    if (number != 0) return number;
+    if (malformed_quotas(quotas, records)) return 37;
+    plain_quota *own = quota_of(quotas, records, source);
+    if (own == NULL) return 38;
+    if (own->allowance - own->spent < PLAIN_HEADER + length) return 39;
+    number = plain_event(s, source, pool, data, length);
+    if (number == 0) own->spent += (uint32_t)(PLAIN_HEADER + length);
+    return number;
+}
+
+uint32_t plain_metered_request(plain_state *s, plain_quota *quotas, size_t records, uint32_t clock, uint8_t *out,
+                               size_t length, uint32_t *emptied)
+{
+    *emptied = 0;
+    if (length > max_request) return 14;
+    if (malformed_quotas(quotas, records)) return 37;
+    uint32_t number = plain_request(s, clock, out, length, emptied);
+    for (size_t i = 0; *emptied > 0 && i < records; i++) quotas[i].spent = 0;
     return number;
 }

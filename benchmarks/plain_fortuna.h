@@ -8,7 +8,7 @@
 #include <stdint.h>
 
 /* An event's header in its pool is the source in two bytes, least significant first, and the length in one. */
-enum { PLAIN_POOLS = 32, PLAIN_HEADER = 3, PLAIN_DATA = 32, PLAIN_SEED = 64 };
+enum { PLAIN_POOLS = 32, PLAIN_HEADER = 3, PLAIN_DATA = 32, PLAIN_SEED = 64, PLAIN_QUOTAS = 64 };
 
 /* The hash value over 64 zero bytes and the whole blocks so far, the bytes after them with zeros behind, and the count
    of all bytes without the 64 zeros. */
@@ -31,6 +31,13 @@ typedef struct {
     uint16_t key_requests;
 } plain_state;
 
+/* What a source may bring between two pool reseeds, and what it has brought. */
+typedef struct {
+    uint32_t source;
+    uint32_t allowance;
+    uint32_t spent;
+} plain_quota;
+
 void plain_new(plain_state *s);
 
 /* Each returns 0 or a refusal's number (11 to 15, 36, 21 to 24), and stores the count of pools emptied. After a refusal
@@ -39,5 +46,11 @@ uint32_t plain_event(plain_state *s, uint32_t source, uint32_t pool, const uint8
 uint32_t plain_request(plain_state *s, uint32_t clock, uint8_t *out, size_t length, uint32_t *emptied);
 uint32_t plain_update(plain_state *s, uint32_t clock, uint8_t *seed, size_t length, uint32_t *emptied);
 uint32_t plain_write(plain_state *s, uint32_t clock, uint8_t *seed, size_t length, uint32_t *emptied);
+
+/* An event and a request with a list of quotas; 37 to 39 too. */
+uint32_t plain_metered_event(plain_state *s, plain_quota *quotas, size_t records, uint32_t source, uint32_t pool,
+                             const uint8_t *data, size_t length);
+uint32_t plain_metered_request(plain_state *s, plain_quota *quotas, size_t records, uint32_t clock, uint8_t *out,
+                               size_t length, uint32_t *emptied);
 
 #endif

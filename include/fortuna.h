@@ -41,6 +41,12 @@
        fortuna_write                   43,008
        fortuna_random_below            53,248
        fortuna_shuffle                 53,248
+       fortuna_metered_event           16,384
+       fortuna_metered_request         50,176
+       fortuna_metered_update          53,248
+       fortuna_metered_write           50,176
+       fortuna_metered_random_below    60,416
+       fortuna_metered_shuffle         60,416
        fortuna_log                    270,336
        fortuna_health_new                 256
        fortuna_health_test                256

@@ -1,8 +1,9 @@
 /* A digitiser from start to stop: the stored seed goes in and its successor is stored before any key is drawn, noise is
    tested and goes in as events, link keys, a radio slot and the order of a polling list come out. One source gets
    stuck: the health tests tell before its stuck readings become an event. Another digitiser is fresh from the works:
-   its page of flash memory was never written, so it waits for noise before it has a seed. Noise, clock and flash pages
-   are stand-ins, so each run prints the same.
+   its page of flash memory was never written, so it waits for noise before it has a seed. At the last power-up a
+   tiltmeter floods: a list of quotas turns back what is too much, and the seismometer goes on. Noise, clock and flash
+   pages are stand-ins, so each run prints the same.
 
    One call at a time on a state: here the task that runs main owns the state and makes every call. Interrupts only put
    noise into a ring buffer, and the owner takes it from there between its other calls. */
@@ -59,6 +60,12 @@ static const char *reason(uint32_t number)
         return "tries outside 1 to 64";
     case FORTUNA_BLANK_SEED:
         return "a blank seed: 64 equal bytes";
+    case FORTUNA_BAD_QUOTAS:
+        return "a list above 64 quotas, with a repeated source, or with more spent than allowed";
+    case FORTUNA_NOT_LISTED:
+        return "a source with no quota";
+    case FORTUNA_OVER_ALLOWANCE:
+        return "more than the source's allowance";
     case FORTUNA_MALFORMED:
         return "a malformed state";
     case FORTUNA_POOL_FULL:
@@ -231,17 +238,22 @@ static void gather_noise(fortuna_state *f)
     printf("%d events taken\n", count);
 }
 
-/* A key, or why there is none: a caller can wait for noise and ask again. */
-static void draw_key(fortuna_state *f, uint32_t clock)
+static void show_key(uint32_t clock, fortuna_answer a, const uint8_t key[KEY])
 {
-    uint8_t key[KEY];
-    fortuna_answer a = fortuna_request(f, clock, key, sizeof key);
     if (a.number != FORTUNA_DONE) {
         printf("key at %u ms: refused, %u (%s)\n", clock, a.number, reason(a.number));
         return;
     }
     printf("key at %u ms, pools emptied %u: ", clock, a.emptied);
-    print_bytes(key, sizeof key);
+    print_bytes(key, KEY);
+}
+
+/* A key, or why there is none: a caller can wait for noise and ask again. */
+static void draw_key(fortuna_state *f, uint32_t clock)
+{
+    uint8_t key[KEY];
+    fortuna_answer a = fortuna_request(f, clock, key, sizeof key);
+    show_key(clock, a, key);
 }
 
 /* Stands in for storing the page in flash memory. */
@@ -309,9 +321,8 @@ static void misjudge_cutoff(void)
 }
 
 /* A radio slot, or why there is none: after FORTUNA_NONE_DRAWN a caller can draw again, from the state that is left. */
-static void draw_slot(fortuna_state *f, uint32_t clock)
+static void show_slot(uint32_t clock, fortuna_draw d)
 {
-    fortuna_draw d = fortuna_random_below(f, clock, SLOTS, TRIES);
     if (d.number != FORTUNA_DONE) {
         printf("slot at %u ms: refused, %u (%s)\n", clock, d.number, reason(d.number));
         return;
@@ -319,17 +330,32 @@ static void draw_slot(fortuna_state *f, uint32_t clock)
     printf("slot at %u ms, pools emptied %u: %u\n", clock, d.emptied, (unsigned)d.value);
 }
 
-/* The order in which a hub polls its stations. */
-static void order_stations(fortuna_state *f, uint32_t clock)
+static void draw_slot(fortuna_state *f, uint32_t clock)
 {
-    uint16_t list[STATIONS];
+    show_slot(clock, fortuna_random_below(f, clock, SLOTS, TRIES));
+}
+
+static void number_stations(uint16_t list[STATIONS])
+{
     for (uint16_t i = 0; i < STATIONS; i++)
         list[i] = (uint16_t)(i + 1);
-    must("shuffle", fortuna_shuffle(f, clock, list, STATIONS).number);
+}
+
+static void show_order(const uint16_t list[STATIONS])
+{
     printf("polling list:");
     for (size_t i = 0; i < STATIONS; i++)
         printf(" %u", list[i]);
     printf("\n");
+}
+
+/* The order in which a hub polls its stations. */
+static void order_stations(fortuna_state *f, uint32_t clock)
+{
+    uint16_t list[STATIONS];
+    number_stations(list);
+    must("shuffle", fortuna_shuffle(f, clock, list, STATIONS).number);
+    show_order(list);
 }
 
 /* How stale the key is, for whoever services the digitiser. No call is needed: the number is part of the state. */
@@ -361,6 +387,121 @@ static void start_twice(void)
     }
 }
 
+/* ---- a tiltmeter that floods while a seismometer goes on */
+
+enum { INSTRUMENTS = 3, HEADER = 3, FLOOD = 10 };
+
+/* What an instrument may bring from one pool reseed to the next: an event for each pool. As each goes round the pools,
+   it brings 35 of the 64 bytes that pool 0 needs for a reseed, and another must bring the rest. */
+enum { ALLOWANCE = POOLS * (HEADER + READINGS) };
+
+/* The state with its list of quotas. Every call on the state gets the list, those that draw too: without it an event is
+   charged to nobody, and a pool reseed clears nothing. So the functions below take both as one. */
+typedef struct {
+    fortuna_state state;
+    fortuna_quota quotas[INSTRUMENTS];
+} metered;
+
+/* An instrument, and how many of its events were taken and refused. Health tests and ring buffer are left out here: a
+   device has them with a list as without. */
+typedef struct {
+    const char *name;
+    uint32_t number, taken, refused;
+} instrument;
+
+/* By rising sources, which makes the check of the list quicker. */
+static metered start_metered(const instrument from[INSTRUMENTS])
+{
+    metered m = {.state = fortuna_new()};
+    for (size_t i = 0; i < INSTRUMENTS; i++)
+        m.quotas[i] = (fortuna_quota){.source = from[i].number, .allowance = ALLOWANCE};
+    return m;
+}
+
+static uint32_t metered_event(metered *m, uint32_t number, uint32_t turn, uint32_t pool)
+{
+    uint8_t data[READINGS];
+    for (uint32_t i = 0; i < READINGS; i++)
+        data[i] = (uint8_t)reading(number, turn, i);
+    return fortuna_metered_event(&m->state, m->quotas, INSTRUMENTS, number, pool, data, sizeof data);
+}
+
+/* An instrument's next event, for the pool after that of its last one taken. Too much is no fault of the device: the
+   event is dropped, and after the next pool reseed others are taken. */
+static void send_event(metered *m, instrument *from)
+{
+    const uint32_t turn = from->taken + from->refused;
+    const uint32_t number = metered_event(m, from->number, turn, from->taken % POOLS);
+    if (number != FORTUNA_OVER_ALLOWANCE) {
+        must("event", number);
+        from->taken++;
+    } else if (from->refused++ == 0) {
+        printf("%s, event %u: refused, %u (%s)\n", from->name, turn + 1, number, reason(number));
+    }
+}
+
+static void send_flood(metered *m, instrument *from)
+{
+    for (int i = 0; i < FLOOD; i++)
+        send_event(m, from);
+}
+
+/* A round of the pools: in each turn the others send an event each, and the tiltmeter many. */
+static void send_round(metered *m, instrument *seismometer, instrument *tiltmeter, instrument *barometer)
+{
+    for (int turn = 0; turn < POOLS; turn++) {
+        send_flood(m, tiltmeter);
+        send_event(m, seismometer);
+        send_event(m, barometer);
+    }
+}
+
+static void show_metered(const metered *m, const instrument from[INSTRUMENTS])
+{
+    for (size_t i = 0; i < INSTRUMENTS; i++)
+        printf("%s: %u events taken, %u refused, %u of %u bytes spent\n", from[i].name, from[i].taken, from[i].refused,
+               m->quotas[i].spent, m->quotas[i].allowance);
+}
+
+/* A source that nobody put on the list. */
+static void send_unlisted(metered *m)
+{
+    const uint32_t number = metered_event(m, 7, 0, 0);
+    if (number != FORTUNA_DONE)
+        printf("event of source 7: refused, %u (%s)\n", number, reason(number));
+}
+
+/* The calls that draw, each with the list. The first makes the pool reseed, after which nothing is spent. */
+static void draw_metered(metered *m, uint32_t clock)
+{
+    uint8_t key[KEY];
+    uint16_t list[STATIONS];
+    fortuna_answer a = fortuna_metered_request(&m->state, m->quotas, INSTRUMENTS, clock, key, sizeof key);
+    show_key(clock, a, key);
+    show_slot(clock, fortuna_metered_random_below(&m->state, m->quotas, INSTRUMENTS, clock, SLOTS, TRIES));
+    number_stations(list);
+    must("shuffle", fortuna_metered_shuffle(&m->state, m->quotas, INSTRUMENTS, clock, list, STATIONS).number);
+    show_order(list);
+}
+
+/* A power-up from the seed that the last one left, with a list from the first call to the last. */
+static void flood(uint8_t page[SEED])
+{
+    instrument all[INSTRUMENTS] = {{"seismometer", 1, 0, 0}, {"tiltmeter", 4, 0, 0}, {"barometer", 900, 0, 0}};
+    metered m = start_metered(all);
+    printf("a tiltmeter floods\n");
+    must("seed update", fortuna_metered_update(&m.state, m.quotas, INSTRUMENTS, 10, page, SEED).number);
+    store("seed updated", page);
+    send_round(&m, &all[0], &all[1], &all[2]);
+    send_unlisted(&m);
+    show_metered(&m, all);
+    draw_metered(&m, 1000);
+    send_flood(&m, &all[1]); /* taken again, after the pool reseed */
+    show_metered(&m, all);
+    must("seed write", fortuna_metered_write(&m.state, m.quotas, INSTRUMENTS, 2000, page, SEED).number);
+    store("seed for the next start", page);
+}
+
 int main(void)
 {
     show_edition();
@@ -384,5 +525,6 @@ int main(void)
     write_seed(&f, 2000, flash);
     run_log();
     start_twice();
+    flood(flash);
     return 0;
 }

@@ -1,5 +1,6 @@
-"""What the commands in bin/ build before they run: the bench program, and the health tests' program over the static
-library. rt proves whatever has changed; that takes minutes, and standard error says how far it is."""
+"""What the commands in bin/ build before they run: the bench program, and over the static library the health tests'
+program and one that makes calls with a list of quotas. rt proves whatever has changed; that takes minutes, and standard
+error says how far it is."""
 import contextlib
 import fcntl
 import hashlib
@@ -17,7 +18,9 @@ TARGET = ROOT / "target"
 BENCH = "bench_main"
 LIBRARY = "fortuna_c"
 ARCHIVE = TARGET / "staticlib" / f"lib{LIBRARY}.a"
-DRIVER = ROOT / "tests" / "c_interface" / "health.c"
+HEALTH = ROOT / "tests" / "c_interface" / "health.c"
+METERED = ROOT / "tests" / "bench" / "metered.c"
+LENT = ROOT / "tests" / "c_interface" / "lent.h"
 QUIET = 5  # seconds after which a proof, or the wait for another command's, says how far it is
 EVERY = 10  # seconds from then on
 
@@ -119,7 +122,7 @@ def bench_program(name, verbose=False):
     return TARGET / "bin" / BENCH
 
 
-# ---- the health tests' program
+# ---- the programs over the static library
 
 
 def digest(paths):
@@ -132,7 +135,7 @@ def digest(paths):
 
 def make(made, sources, maker):
     """Has a file made, unless it and its sources are as they were when it was made last."""
-    stamp = TARGET / "health" / f"{made.name}.stamp"
+    stamp = TARGET / "drivers" / f"{made.name}.stamp"
     before = digest(sources)
     if made.is_file() and stamp.is_file() and stamp.read_text() == before + digest([made]):
         return
@@ -144,23 +147,23 @@ def sources_of_library():
     return [ROOT / "crates.txt", *sorted(path for path in (ROOT / "crates").rglob("*") if path.is_file())]
 
 
-def compile_driver(program):
+def compile_driver(driver, program):
     """By way of another name, so that a run of the old program is not disturbed."""
     new = program.with_suffix(".new")
-    words = ["gcc", "-std=c11", "-O2", "-Wall", "-Wextra", f"-I{ROOT / 'include'}", "-o", new, DRIVER, ARCHIVE]
+    words = ["gcc", "-std=c11", "-O2", "-Wall", "-Wextra", f"-I{ROOT / 'include'}", "-o", new, driver, ARCHIVE]
     if shutil.which("gcc") is None:
         raise NotBuilt("gcc is not on the path")
     done = subprocess.run(words, stderr=subprocess.PIPE)
     if done.returncode:
         sys.stderr.write(done.stderr.decode(errors="replace"))
-        raise NotBuilt(f"{DRIVER.relative_to(ROOT)} could not be compiled; gcc's words stand above")
+        raise NotBuilt(f"{driver.relative_to(ROOT)} could not be compiled; gcc's words stand above")
     new.replace(program)
 
 
-def health_program(name, verbose=False):
-    """tests/c_interface/health.c over the static library, which is built where a file under crates/ has changed; with
-    LIBRARY_BUILT in the environment it is taken as it stands."""
-    program = TARGET / "health" / "health"
+def library_program(driver, name, verbose):
+    """A driver over the static library, which is built where a file under crates/ has changed; with LIBRARY_BUILT in
+    the environment it is taken as it stands."""
+    program = TARGET / "drivers" / driver.stem
     with alone(name):
         program.parent.mkdir(exist_ok=True)
         if not os.environ.get("LIBRARY_BUILT"):
@@ -168,5 +171,13 @@ def health_program(name, verbose=False):
         elif not ARCHIVE.is_file():
             raise NotBuilt(f"LIBRARY_BUILT is set, and there is no {ARCHIVE.relative_to(ROOT)}")
         header = ROOT / "include" / "fortuna.h"
-        make(program, [ARCHIVE, header, DRIVER, DRIVER.parent / "lent.h"], lambda: compile_driver(program))
+        make(program, [ARCHIVE, header, driver, LENT], lambda: compile_driver(driver, program))
     return program
+
+
+def health_program(name, verbose=False):
+    return library_program(HEALTH, name, verbose)
+
+
+def metered_program(name, verbose=False):
+    return library_program(METERED, name, verbose)

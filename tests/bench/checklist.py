@@ -3,7 +3,7 @@
 
 The year's checks of docs/CHECKLIST.md. CHECK is one of
 
-  april      junk in place of a noise source; health tests tell the one that is stuck
+  april      junk in place of a noise source; health tests tell the one that is stuck; quotas hold back one that floods
   may        cold start from a stored seed, and from a page that was never written
   july       clock set back, then a draw every 50 ms
   october    keys worked out again from the logged calls
@@ -38,11 +38,12 @@ sys.path += [str(ROOT / "tests" / folder) for folder in ("independent", "c_inter
 
 import health_script
 from arguments import Parser
-from building import NotBuilt, bench_program, end_on_signals, health_program
+from building import NotBuilt, bench_program, end_on_signals, health_program, metered_program
 from cutoffs import usable
 from editions import BlankLogbook, OneByteLogbook
-from frames import HEADER, Noise, blank_page, event, log_of, nearly_blank, request, update, wide_event, write
+from frames import HEADER, MOST_DATA, Noise, blank_page, event, log_of, nearly_blank, request, update, wide_event, write
 from logbook import MOST_TOLD, Event, Logbook, answer, booked, call_of, lines as lines_of
+from metered_logbook import MeteredLogbook
 from program import Failure, compare, run, shortened
 
 KEY = 32  # bytes of a key drawn
@@ -56,19 +57,28 @@ def require(holds, why):
 
 class Bench:
     """A program, the directory where the logs of its runs stay, the name and bytes of a log that a station wrote, if
-    there is one, and the health tests' program, which April needs."""
+    there is one, and the two programs that April needs: that of the health tests, and the one that makes the calls of a
+    log with a list of quotas."""
 
-    def __init__(self, program, directory, station_log=None, health=None):
+    def __init__(self, program, directory, station_log=None, health=None, metered=None):
         self.program = program
         self.directory = directory
         self.station_log = station_log
         self.health = health
+        self.metered = metered
+
+    def book(self):
+        """A fresh logbook, which works out what the program must answer."""
+        return Logbook()
 
     def answers(self, log):
         return run(self.program, log)
 
     def health_answers(self, script):
         return run(self.health, script)
+
+    def metered_answers(self, log, allowances):
+        return run(self.metered, log, *(str(word) for record in allowances.items() for word in record))
 
     def run(self, name, log):
         """The program's answers, a list with one for each line."""
@@ -86,13 +96,28 @@ class Bench:
     def work_out_again(self, name):
         """Holds a run to what tests/independent/logbook.py works out from its log, and gives the logbook at its end."""
         log = (self.directory / f"{name}.log").read_bytes()
-        book = Logbook()
+        book = self.book()
         expected = log_of(answer(book, line) for line in lines_of(io.BytesIO(log)))
         try:
             compare(log, expected, (self.directory / f"{name}.answers").read_bytes())
         except Failure as why:
             raise Failure(f"{name}.log, {why}") from None
         return book
+
+
+class MeteredBench(Bench):
+    """A bench's station with a list of quotas, allowances by source, that every call takes as the last one left it."""
+
+    def __init__(self, bench, allowances):
+        super().__init__(bench.program, bench.directory)
+        self.bench = bench
+        self.allowances = allowances
+
+    def book(self):
+        return MeteredLogbook(self.allowances)
+
+    def answers(self, log):
+        return self.bench.metered_answers(log, self.allowances)
 
 
 def came_due(answers):
@@ -240,6 +265,102 @@ def april(bench):
     print(f"{len(sample)} events changed, one at a time: {sum(entered)} change each key from the reseed they are")
     print(f"booked for onwards, and none before; {entered.count(False)} are booked for later reseeds, and change none yet.")
     bench.work_out_again("april")
+    april_flood(bench)
+
+
+# ---- April: a source that floods, held back by its quota
+
+FLOODING, UNLISTED = 4, 7
+STEADY = (1, 5, 900)
+FLOOD = 2  # events of the flooding source for pool 0, and as many for another, where a steady one sends one
+FLOOD_TURNS = 8
+ALLOWANCE = 32 * (HEADER + MOST_DATA)  # of each source on the list: an event of 32 bytes for each pool
+
+
+def flood_lines():
+    """At each turn the steady sources send what they may, the last byte of it too, and a key is drawn after a pool
+    reseed. The round of the pools goes up and down in turn, so that pools that come due get events also after the flood
+    was refused. A request in between makes no reseed, so it must clear nothing."""
+    noise = Noise("april's flood")
+    for turn in range(FLOOD_TURNS):
+        clock = 1000 + 101 * turn
+        for pool in sorted(range(32), reverse=turn % 2):
+            for place in (0, pool) * FLOOD:
+                yield event(FLOODING, place, noise.take(1 + noise.below(MOST_DATA)))
+            yield from (event(source, pool, noise.take(MOST_DATA)) for source in STEADY)
+            if turn and pool == 15:
+                yield request(clock - 1, 0)
+        yield event(UNLISTED, 0, noise.take(MOST_DATA))
+        yield request(clock, KEY)
+
+
+def flood_numbers(lines, answers):
+    """The number that each line must be answered with. What the flooding source has brought since the last pool reseed
+    is counted here once more."""
+    brought = 0
+    for line, reply in zip(lines, answers):
+        name, source, _, *data = call_of(line)
+        cost = HEADER + len(data[0]) if name == "event" and source == FLOODING else 0
+        if name == "event" and source == UNLISTED:
+            yield b"38"
+        elif brought + cost > ALLOWANCE:
+            yield b"39"
+        else:
+            brought += cost
+            yield b"00"
+        if emptied(reply):
+            brought = 0
+
+
+def flood_answers(metered, lines):
+    """The steady sources' events are all accepted, and a pool reseed comes before each key."""
+    answers = metered.run("april-flood", log_of(lines))
+    for n, (number, line, reply) in enumerate(zip(flood_numbers(lines, answers), lines, answers), 1):
+        why = f"expected '{number.decode()}', found {shortened(reply)}"
+        require(reply[:2] == number, f"april-flood.log, line {n}, {shortened(line)}: {why}")
+    reseeds = [number for number, _ in draws(answers)]
+    expected = [*range(1, FLOOD_TURNS + 1)]
+    require(reseeds == expected, f"april-flood.log: pool reseeds up to each key: expected {expected}, found {reseeds}")
+    return answers
+
+
+def flood_sample(lines, answers):
+    """Places of events that were refused by quota, and of accepted ones: many of the steady sources, for pools that come
+    due and for the last, and some of the flooding one."""
+    refused, steady, flooding = [], [], []
+    for place, (line, reply) in enumerate(zip(lines, answers)):
+        name, source, pool, *_ = call_of(line)
+        if reply == b"39":
+            refused.append(place)
+        elif name == "event" and source == FLOODING:
+            flooding.append(place)
+        elif name == "event" and source in STEADY and pool in (0, 1, 2, 3, 31):
+            steady.append(place)
+    return refused[::31], steady[::2] + flooding[::31]
+
+
+def leaves_no_trace(bench, lines, answers, place):
+    """Changing one event that was refused changes no answer, and so no key."""
+    others = bench.run("april-one-changed", with_one_changed(lines, place))
+    what = f"event of source {FLOODING}, line {place + 1}, refused with 39"
+    require(answers == others, f"{what}: changing it changes a later answer")
+
+
+def april_flood(bench):
+    allowances = dict.fromkeys((*STEADY, FLOODING), ALLOWANCE)
+    print(f"With a list, {ALLOWANCE} bytes for each of sources {', '.join(map(str, allowances))}; {FLOODING} floods.")
+    metered = MeteredBench(bench, allowances)
+    lines = list(flood_lines())
+    answers = flood_answers(metered, lines)
+    print(f"{answers.count(b'39')} events of source {FLOODING} refused with 39; of the other sources none.")
+    refused, accepted = flood_sample(lines, answers)
+    for place in refused:
+        leaves_no_trace(metered, lines, answers, place)
+    print(f"{len(refused)} refused events changed, one at a time: no key changes.")
+    entered = [enters(metered, lines, answers, place) for place in accepted]
+    print(f"{len(accepted)} accepted events changed: {sum(entered)} change each key from the reseed they are booked")
+    print(f"for onwards, and none before; {entered.count(False)} are booked for later reseeds, and change none yet.")
+    metered.work_out_again("april-flood")
 
 
 # ---- May: cold start
@@ -561,11 +682,12 @@ def passes(name, bench):
 
 
 def own_programs(names, bench):
-    """The bench, given or of this repository, and the health tests' program over its static library, where a check
-    needs that. They are built in this process, so that rt ends with it."""
+    """The bench, given or of this repository, and the two programs over its static library, where a check needs them.
+    They are built in this process, so that rt ends with it."""
     try:
         program = bench or bench_program("checklist")
-        return program, health_program("checklist") if "april" in names else None
+        over_library = (health_program, metered_program) if "april" in names else ()
+        return program, [build("checklist") for build in over_library]
     except NotBuilt as why:
         raise Failure(str(why)) from None
 
@@ -615,14 +737,14 @@ def answer_checks(parser):
             station_log = chosen.log, log.read()
     names = [*CHECKS] if chosen.check == "year" else [chosen.check]
     try:
-        program, health = own_programs(names, chosen.bench)
+        program, over_library = own_programs(names, chosen.bench)
         directory = chosen.out or Path(tempfile.mkdtemp(prefix="checklist-"))
         directory.mkdir(parents=True, exist_ok=True)
     except Failure as why:
         parser.exit(1, f"checklist: {why}\n")
     except OSError as why:
         parser.exit(2, f"checklist: {why.filename}: {why.strerror}\n")
-    bench = Bench(program, directory, station_log, health)
+    bench = Bench(program, directory, station_log, *over_library)
     results = [passes(name, bench) for name in names]
     print(f"logs and answers: {directory}")
     return 0 if all(results) else 1

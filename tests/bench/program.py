@@ -29,18 +29,19 @@ def finished(status, output, said=b""):
     return output
 
 
-def run_on(program, **rest):
-    """The answers of a run; rest is for subprocess: where the log comes from, and the environment."""
+def run_on(program, *words, **rest):
+    """The answers of a run with these words; rest is for subprocess: where the log comes from, and the environment."""
+    pipes = {"stdout": subprocess.PIPE, "stderr": subprocess.PIPE}
     try:
-        done = subprocess.run(command(program), stdout=subprocess.PIPE, stderr=subprocess.PIPE, timeout=LIMIT, **rest)
+        done = subprocess.run([*command(program), *words], timeout=LIMIT, **pipes, **rest)
     except subprocess.TimeoutExpired:
         raise Failure(f"no end after {LIMIT} seconds") from None
     return finished(done.returncode, done.stdout, done.stderr)
 
 
-def run(program, log):
-    """The answers to a log."""
-    return run_on(program, input=log)
+def run(program, log, *words):
+    """The answers to a log; words are arguments of the program."""
+    return run_on(program, *words, input=log)
 
 
 def run_file(program, path):

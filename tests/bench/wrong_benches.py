@@ -1,8 +1,8 @@
 #!/usr/bin/env python3
 """Shows that October's made log (tests/bench/checklist.py) tells wrong benches from the right one; those with a wrong
 block of zeros (02, v) are told by a stored log too. What no bench can show, the readings tell. April tells wrong health
-tests (02, vi) from the right ones. Benches that go wrong at a blank seed (02, vii) are told by May or October, and by
-the stored log of blank flash.
+tests (02, vi) and wrong quotas (02, x) from the right ones. Benches that go wrong at a blank seed (02, vii) are told by
+May or October, and by the stored log of blank flash.
 
     tests/bench/wrong_benches.py      a line for each wrong one; exits 1 where one gives the right answers
 
@@ -24,13 +24,14 @@ import logbook
 import readings
 import station
 from bench_runs import stored
-from checklist import SOURCES, Bench, april, april_health, april_lines, may, october, october_lines
+from checklist import SOURCES, Bench, april, april_flood, april_health, april_lines, may, october, october_lines
 from editions import BlankLogbook
 from frames import log_of
 from generator import State, sha_d256
 from health import Health
-from logbook import Logbook
+from logbook import Event, Logbook, booked
 from logs import LOGS
+from metered_logbook import MeteredLogbook
 from program import Failure
 from sha256 import INITIAL, compress, finish
 
@@ -375,17 +376,158 @@ class AlwaysFails(Health):
 WRONG_HEALTH = (NeverFails, FailsLate, NeedsOneMore, NoRepetition, TellsOther, KeepsState, TakesChosen, AlwaysFails)
 
 
+# ---- quotas
+
+
+class NoQuotas(MeteredLogbook):
+    """refuse nothing"""
+
+    def quota_refusal(self, source, data):
+        return 0
+
+
+class TakesUnlisted(MeteredLogbook):
+    """hold back no source that is not listed"""
+
+    def quota_refusal(self, source, data):
+        return super().quota_refusal(source, data) if source in self.allowances else 0
+
+
+class ChargesDataAlone(MeteredLogbook):
+    """charge an event without its header"""
+
+    def cost(self, data):
+        return len(data)
+
+
+class ChargesOldHeader(MeteredLogbook):
+    """charge a header of 2 bytes, as before frame 05"""
+
+    def cost(self, data):
+        return 2 + len(data)
+
+
+class ChargesNothing(MeteredLogbook):
+    """charge nothing, so that each event is looked at alone"""
+
+    def spent_by(self, source):
+        return 0
+
+
+class ChargesRefused(MeteredLogbook):
+    """charge refused events too"""
+
+    def event(self, source, pool, data):
+        answer = super().event(source, pool, data)
+        if answer[0] == 39:
+            self.brought[source, self.reseeds] += self.cost(data)
+        return answer
+
+
+class ChargesAll(MeteredLogbook):
+    """charge every source for the events of all"""
+
+    def spent_by(self, source):
+        return sum(super(ChargesAll, self).spent_by(other) for other in self.allowances)
+
+
+class ChargesFirst(MeteredLogbook):
+    """charge the first source of the list"""
+
+    def spent_by(self, source):
+        first = next(iter(self.allowances))
+        return sum(super(ChargesFirst, self).spent_by(other) for other in self.allowances) if source == first else 0
+
+
+class RefusesLastByte(MeteredLogbook):
+    """refuse an event that brings its source to its allowance"""
+
+    def quota_refusal(self, source, data):
+        return super().quota_refusal(source, data + b"-")
+
+
+class NeverClears(MeteredLogbook):
+    """stay as they are at a pool reseed"""
+
+    def spent_by(self, source):
+        return sum(count for (other, _), count in self.brought.items() if other == source)
+
+
+class ClearsOne(MeteredLogbook):
+    """clear the first source alone at a pool reseed"""
+
+    def spent_by(self, source):
+        if source == next(iter(self.allowances)):
+            return super().spent_by(source)
+        return sum(count for (other, _), count in self.brought.items() if other == source)
+
+
+class ClearsAtRequests(MeteredLogbook):
+    """clear at each request, whether or not it makes a pool reseed"""
+
+    def request(self, clock, buffer):
+        answer = super().request(clock, buffer)
+        self.brought.clear()
+        return answer
+
+
+class KeepsRefused(MeteredLogbook):
+    """refuse an event by its number, and keep its bytes"""
+
+    def event(self, source, pool, data):
+        answer = super().event(source, pool, data)
+        if answer[0] == 39:
+            noted = Event(source, pool, data, self.reseeds)
+            self.bookings[pool][booked(noted)] += self.gained(noted)
+        return answer
+
+
+class LosesOthers(MeteredLogbook):
+    """accept events of others after one was refused, and lose them"""
+
+    refused = None  # the last one's source, and the pool reseeds made before it
+
+    def event(self, source, pool, data):
+        if self.refused and source in self.allowances.keys() - self.refused[:1] and self.reseeds == self.refused[1]:
+            return 0, 0, b""
+        answer = super().event(source, pool, data)
+        if answer[0] == 39:
+            self.refused = source, self.reseeds
+        return answer
+
+
+class HoldsBackReseed(MeteredLogbook):
+    """put the pool reseed off while a source is at its allowance"""
+
+    def due(self, clock):
+        return super().due(clock) and all(map(self.has_room, self.allowances))
+
+    def has_room(self, source):
+        return self.spent_by(source) < self.allowances[source]
+
+
+WRONG_QUOTAS = (
+    *(NoQuotas, TakesUnlisted, ChargesDataAlone, ChargesOldHeader, ChargesNothing, ChargesRefused, ChargesAll),
+    *(ChargesFirst, RefusesLastByte, NeverClears, ClearsOne, ClearsAtRequests, KeepsRefused, LosesOthers),
+    HoldsBackReseed,
+)
+
+
 # ---- what tells them apart
 
 
 class PlayedBench(Bench):
-    """A bench whose part a logbook plays, and health tests that are played too; program and health are the classes."""
+    """A bench whose part a logbook plays, and health tests and quotas that are played too; program, health and metered
+    are the classes."""
 
     def answers(self, log):
         return b"".join(logbook.answers(io.BytesIO(log), self.program()))
 
     def health_answers(self, script):
         return b"".join(health_script.answers(script, self.health))
+
+    def metered_answers(self, log, allowances):
+        return b"".join(logbook.answers(io.BytesIO(log), self.metered(allowances)))
 
 
 def first_difference(log, right, wrong):
@@ -446,21 +588,29 @@ def health_places(directory):
         yield f"health tests that {wrong.__doc__}", [why and f"April: {why}"]
 
 
+def quota_places(directory):
+    """What is wrong with quotas, and what April says of them."""
+    for wrong in WRONG_QUOTAS:
+        why = verdict(april_flood, PlayedBench(Logbook, directory, metered=wrong))
+        yield f"quotas that {wrong.__doc__}", [why and f"April: {why}"]
+
+
 def right_ones(directory):
-    """What the checks say of right benches and of right health tests, where they fail one."""
+    """What the checks say of right benches, health tests and quotas, where they fail one."""
     for book in (Logbook, partial(WrongD, sha_d256, sha_d256)):
         yield verdict(october, PlayedBench(book, directory))
     for book in (Logbook, partial(WrongBlank, one_value)):
         yield verdict(may, PlayedBench(book, directory))
         yield stored_place(book, ["flash"])
     yield verdict(april_health, PlayedBench(Logbook, directory, health=Health), list(april_lines(SOURCES)))
+    yield verdict(april_flood, PlayedBench(Logbook, directory, metered=MeteredLogbook))
 
 
 def main():
     failed = False
     with tempfile.TemporaryDirectory() as folder:
         directory = Path(folder)
-        for text, found in (*places(directory), *health_places(directory)):
+        for text, found in (*places(directory), *health_places(directory), *quota_places(directory)):
             failed |= None in found
             print(f"{'FAIL' if None in found else 'pass'}  {text}: {'; '.join(place or 'not told' for place in found)}")
         good = [why for why in right_ones(directory) if why]

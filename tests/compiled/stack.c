@@ -10,7 +10,8 @@
 #include <stdlib.h>
 #include <string.h>
 
-enum { STACK = 1 << 20, PAINT = 0xa5, LIST = 256, SEED = 64, ROOM = 1 << 20, SAMPLES = 1000 };
+enum { STACK = 1 << 20, PAINT = 0xa5, LIST = 256, SEED = 64, ROOM = 1 << 20, SAMPLES = 1000, RECORDS = 64 };
+enum { SOURCE = 900 };
 
 static uint8_t *stack;
 static fortuna_state state;
@@ -19,6 +20,8 @@ static fortuna_aes256_key expanded;
 static fortuna_aes256_bytewise_key bytewise_expanded;
 static uint8_t data[ROOM], out[ROOM], seed[SEED];
 static uint16_t list[LIST];
+static fortuna_quota quotas[RECORDS];
+static size_t records;
 static fortuna_health health;
 static uint32_t samples[SAMPLES];
 static char lines[1 << 16];
@@ -32,10 +35,19 @@ static void require(bool holds, const char *call, const char *what)
     exit(1);
 }
 
-/* ---- states and seeds to start from: a call is accepted after seeded and due, and refused after the others */
+/* ---- states, seeds and quotas to start from */
+
+/* A full list, with sources that fall so that the check of the list takes its longest way. SOURCE stands last. */
+static void fill_quotas(void)
+{
+    records = RECORDS;
+    for (uint32_t i = 0; i < RECORDS; i++)
+        quotas[i] = (fortuna_quota){.source = SOURCE + RECORDS - 1 - i, .allowance = UINT32_MAX, .spent = 1};
+}
 
 static void seeded(void)
 {
+    fill_quotas();
     state = fortuna_new();
     for (int i = 0; i < SEED; i++)
         seed[i] = (uint8_t)i;
@@ -51,7 +63,7 @@ static void due(void)
     seeded();
     for (uint32_t pool = 0; pool < 32; pool++)
         for (int i = 0; i < 3; i++)
-            require(fortuna_event(&state, 900, pool, data, 32) == FORTUNA_DONE, "an event", "is refused");
+            require(fortuna_event(&state, SOURCE, pool, data, 32) == FORTUNA_DONE, "an event", "is refused");
     state.reseeded = true;
     state.reseed_count = UINT32_MAX;
 }
@@ -72,6 +84,38 @@ static void fresh(void)
 {
     seeded();
     state = fortuna_new();
+}
+
+static void rising(void)
+{
+    seeded();
+    for (uint32_t i = 0; i < RECORDS; i++)
+        quotas[i].source = SOURCE + 1 - RECORDS + i;
+}
+
+static void no_records(void)
+{
+    seeded();
+    records = 0;
+}
+
+static void due_no_records(void)
+{
+    due();
+    records = 0;
+}
+
+static void overspent(void)
+{
+    seeded();
+    quotas[RECORDS - 1].allowance = 0;
+}
+
+/* Of SOURCE no event fits. */
+static void spent(void)
+{
+    seeded();
+    quotas[RECORDS - 1].allowance = 4;
 }
 
 /* Samples that pass both tests, past the end of a window. */
@@ -115,6 +159,11 @@ static void update(void) { fortuna_update(&state, CLOCK, seed, sizeof seed); }
 static void write_seed(void) { fortuna_write(&state, CLOCK, seed, sizeof seed); }
 static void draw(void) { fortuna_random_below(&state, CLOCK, 900, 64); }
 static void shuffle(void) { fortuna_shuffle(&state, CLOCK, list, LIST); }
+static void metered_request(void) { fortuna_metered_request(&state, quotas, records, CLOCK, out, 1000); }
+static void metered_update(void) { fortuna_metered_update(&state, quotas, records, CLOCK, seed, sizeof seed); }
+static void metered_write(void) { fortuna_metered_write(&state, quotas, records, CLOCK, seed, sizeof seed); }
+static void metered_draw(void) { fortuna_metered_random_below(&state, quotas, records, CLOCK, 900, 64); }
+static void metered_shuffle(void) { fortuna_metered_shuffle(&state, quotas, records, CLOCK, list, LIST); }
 static void health_new(void) { health = fortuna_health_new(); }
 static void health_test(void) { fortuna_health_test(&health, samples, SAMPLES, 31, 325); }
 static void health_cutoff(void) { fortuna_health_test(&health, samples, SAMPLES, 31, 513); }
@@ -124,7 +173,13 @@ static void run_log(void) { fortuna_log((const uint8_t *)lines, line_count, out,
 static void event(void)
 {
     for (size_t length = 0; length <= 33; length++)
-        fortuna_event(&state, 900, 3, data, length);
+        fortuna_event(&state, SOURCE, 3, data, length);
+}
+
+static void metered_event(void)
+{
+    for (size_t length = 0; length <= 33; length++)
+        fortuna_metered_event(&state, quotas, records, SOURCE, 3, data, length);
 }
 
 static void add_line(const char *start, int count, int byte)
@@ -154,47 +209,69 @@ static void write_log(void)
     }
 }
 
+/* What a call on a state comes to. The others are not looked at. */
+enum outcome { APART, ACCEPTED, REFUSED };
+
+/* The cases of a call that draws with a list of quotas. */
+#define METERED(name, call) \
+    {name, malformed, call, REFUSED}, {name, overspent, call, REFUSED}, \
+    {name, no_records, call, ACCEPTED}, {name, due_no_records, call, ACCEPTED}, \
+    {name, rising, call, ACCEPTED}, {name, seeded, call, ACCEPTED}, {name, due, call, ACCEPTED}
+
 static const struct {
     const char *name;
     void (*prepare)(void), (*call)(void);
-    bool on_state;
+    enum outcome outcome;
 } cases[] = {
-    {"fortuna_sha256", seeded, sha256, false},
-    {"fortuna_sha_d256", seeded, sha_d256, false},
-    {"fortuna_aes256_expand", seeded, expand, false},
-    {"fortuna_aes256_block", seeded, block, false},
-    {"fortuna_aes256_bytewise_expand", seeded, bytewise_expand, false},
-    {"fortuna_aes256_bytewise_block", seeded, bytewise_block, false},
-    {"fortuna_generator_new", seeded, generator_new, false},
-    {"fortuna_generator_reseed", seeded, generator_reseed, false},
-    {"fortuna_generator_blocks", seeded, generator_blocks, false},
-    {"fortuna_generator_request", seeded, generator_request, false},
-    {"fortuna_new", seeded, new, false},
-    {"fortuna_event", malformed, event, true},
-    {"fortuna_event", seeded, event, true},
-    {"fortuna_request", malformed, request, true},
-    {"fortuna_request", fresh, request, true},
-    {"fortuna_request", seeded, request, true},
-    {"fortuna_request", due, request, true},
-    {"fortuna_update", malformed, update, true},
-    {"fortuna_update", blank, update, true},
-    {"fortuna_update", seeded, update, true},
-    {"fortuna_update", due, update, true},
-    {"fortuna_write", malformed, write_seed, true},
-    {"fortuna_write", seeded, write_seed, true},
-    {"fortuna_write", due, write_seed, true},
-    {"fortuna_random_below", malformed, draw, true},
-    {"fortuna_random_below", seeded, draw, true},
-    {"fortuna_random_below", due, draw, true},
-    {"fortuna_shuffle", malformed, shuffle, true},
-    {"fortuna_shuffle", seeded, shuffle, true},
-    {"fortuna_shuffle", due, shuffle, true},
-    {"fortuna_log", seeded, run_log, false},
-    {"fortuna_health_new", seeded, health_new, false},
-    {"fortuna_health_test", varied, health_test, false},
-    {"fortuna_health_test", varied, health_cutoff, false},
-    {"fortuna_health_test", stuck, health_test, false},
-    {"fortuna_health_test", malformed_health, health_test, false},
+    {"fortuna_sha256", seeded, sha256, APART},
+    {"fortuna_sha_d256", seeded, sha_d256, APART},
+    {"fortuna_aes256_expand", seeded, expand, APART},
+    {"fortuna_aes256_block", seeded, block, APART},
+    {"fortuna_aes256_bytewise_expand", seeded, bytewise_expand, APART},
+    {"fortuna_aes256_bytewise_block", seeded, bytewise_block, APART},
+    {"fortuna_generator_new", seeded, generator_new, APART},
+    {"fortuna_generator_reseed", seeded, generator_reseed, APART},
+    {"fortuna_generator_blocks", seeded, generator_blocks, APART},
+    {"fortuna_generator_request", seeded, generator_request, APART},
+    {"fortuna_new", seeded, new, APART},
+    {"fortuna_event", malformed, event, REFUSED},
+    {"fortuna_event", seeded, event, ACCEPTED},
+    {"fortuna_request", malformed, request, REFUSED},
+    {"fortuna_request", fresh, request, REFUSED},
+    {"fortuna_request", seeded, request, ACCEPTED},
+    {"fortuna_request", due, request, ACCEPTED},
+    {"fortuna_update", malformed, update, REFUSED},
+    {"fortuna_update", blank, update, REFUSED},
+    {"fortuna_update", seeded, update, ACCEPTED},
+    {"fortuna_update", due, update, ACCEPTED},
+    {"fortuna_write", malformed, write_seed, REFUSED},
+    {"fortuna_write", seeded, write_seed, ACCEPTED},
+    {"fortuna_write", due, write_seed, ACCEPTED},
+    {"fortuna_random_below", malformed, draw, REFUSED},
+    {"fortuna_random_below", seeded, draw, ACCEPTED},
+    {"fortuna_random_below", due, draw, ACCEPTED},
+    {"fortuna_shuffle", malformed, shuffle, REFUSED},
+    {"fortuna_shuffle", seeded, shuffle, ACCEPTED},
+    {"fortuna_shuffle", due, shuffle, ACCEPTED},
+    {"fortuna_metered_event", malformed, metered_event, REFUSED},
+    {"fortuna_metered_event", no_records, metered_event, REFUSED},
+    {"fortuna_metered_event", overspent, metered_event, REFUSED},
+    {"fortuna_metered_event", spent, metered_event, REFUSED},
+    {"fortuna_metered_event", rising, metered_event, ACCEPTED},
+    {"fortuna_metered_event", seeded, metered_event, ACCEPTED},
+    METERED("fortuna_metered_request", metered_request),
+    {"fortuna_metered_request", fresh, metered_request, REFUSED},
+    METERED("fortuna_metered_update", metered_update),
+    {"fortuna_metered_update", blank, metered_update, REFUSED},
+    METERED("fortuna_metered_write", metered_write),
+    METERED("fortuna_metered_random_below", metered_draw),
+    METERED("fortuna_metered_shuffle", metered_shuffle),
+    {"fortuna_log", seeded, run_log, APART},
+    {"fortuna_health_new", seeded, health_new, APART},
+    {"fortuna_health_test", varied, health_test, APART},
+    {"fortuna_health_test", varied, health_cutoff, APART},
+    {"fortuna_health_test", stuck, health_test, APART},
+    {"fortuna_health_test", malformed_health, health_test, APART},
 };
 enum { CASES = sizeof cases / sizeof *cases };
 
@@ -240,9 +317,9 @@ static size_t copies_of(const uint8_t key[32])
 /* A call on a state changes its key or a pool exactly if it is accepted. */
 static void check_acceptance(int i, const fortuna_state *old)
 {
-    const bool accepted = cases[i].prepare == seeded || cases[i].prepare == due;
+    const bool accepted = cases[i].outcome == ACCEPTED;
     const bool changed = memcmp(old, &state, offsetof(fortuna_state, last_reseed)) != 0;
-    if (cases[i].on_state)
+    if (cases[i].outcome != APART)
         require(accepted == changed, cases[i].name, accepted ? "is refused" : "is accepted where it should be refused");
 }
 
@@ -253,7 +330,7 @@ int main(void)
     const size_t base = used_by(nothing);
     for (int i = 0; i < CASES;) {
         const char *name = cases[i].name;
-        const bool on_state = cases[i].on_state;
+        const bool on_state = cases[i].outcome != APART;
         size_t most = 0, before = 0, after = 0;
         for (; i < CASES && !strcmp(cases[i].name, name); i++) {
             cases[i].prepare();

@@ -1,6 +1,7 @@
 #!/usr/bin/env python3
 """What the programs in examples/ must print, worked out by station.py, for the ciphers by aes256.py, for the log by
-logbook.py, and for the reading that fails a health test by health.py, from all readings of the source at once.
+logbook.py, and for the reading that fails a health test by health.py, from all readings of the source at once. Which of
+the tiltmeter's events are taken follows from division: its allowance by what an event takes of it.
 
     tests/independent/examples.py                  prints it
     tests/independent/examples.py --check FILE     exits 1 where FILE differs"""
@@ -24,6 +25,10 @@ TESTS = {  # by whether each test fails
     (False, True): "the adaptive proportion test",
     (True, True): "both tests",
 }
+INSTRUMENTS = {"seismometer": 1, "tiltmeter": 4, "barometer": 900}
+COST = 3 + READINGS  # what an event takes of its source's allowance
+ALLOWANCE = 32 * COST
+FLOOD = 10  # events of the tiltmeter where others send one
 LOG = b"010700A1B2\n050384003C\n02000000640010\nFF\n"
 
 
@@ -62,6 +67,14 @@ def key_line(clock, outcome):
     return f"key at {clock} ms, pools emptied {outcome.emptied}: {outcome.buffer.hex()}"
 
 
+def slot_line(clock, outcome):
+    return f"slot at {clock} ms, pools emptied {outcome.emptied}: {outcome.buffer}"
+
+
+def polling_line(outcome):
+    return f"polling list: {' '.join(map(str, outcome.buffer))}"
+
+
 def works_lines():
     """Of the digitiser fresh from the works: a power-up with a page of FF, and one with the seed written over it."""
     yield "fresh from the works, power-up 1"
@@ -78,6 +91,43 @@ def works_lines():
     updated = station.update(station.FRESH, 10, written.buffer)
     yield f"seed updated: {updated.buffer.hex()}"
     yield key_line(1000, station.request(updated.next, 1000, bytes(32)))
+
+
+def tally_lines(sent, taken, spent):
+    """Of the instruments, each with the events that it sent, those taken and the bytes that these took of its quota."""
+    for name in INSTRUMENTS:
+        refused = f"{sent[name] - taken[name]} refused"
+        yield f"{name}: {taken[name]} events taken, {refused}, {spent[name]} of {ALLOWANCE} bytes spent"
+
+
+def flood_lines(seed):
+    """Of the power-up at which a tiltmeter floods. Each instrument's allowance is for one event to each pool. In each
+    pool the tiltmeter's is the first, as it is ahead of the others by then."""
+    yield "a tiltmeter floods"
+    updated = station.update(station.FRESH, 10, seed)
+    yield f"seed updated: {updated.buffer.hex()}"
+    order = [INSTRUMENTS[name] for name in ("tiltmeter", "seismometer", "barometer")]
+    noise = [(source, pool, bytes(readings(source, pool))) for pool in range(ALLOWANCE // COST) for source in order]
+    sent = {name: 32 * (FLOOD if name == "tiltmeter" else 1) for name in INSTRUMENTS}
+    taken = dict.fromkeys(INSTRUMENTS, ALLOWANCE // COST)
+    yield f"tiltmeter, event {taken['tiltmeter'] + 1}: refused, 39 (more than the source's allowance)"
+    yield "event of source 7: refused, 38 (a source with no quota)"
+    yield from tally_lines(sent, taken, {name: COST * taken[name] for name in INSTRUMENTS})
+    key = station.request(given(updated.next, noise), 1000, bytes(32))
+    yield key_line(1000, key)
+    slot = station.draw(key.next, 1000, 100, 64)
+    yield slot_line(1000, slot)
+    shuffled = station.shuffle(slot.next, 1000, tuple(range(1, 9)))
+    yield polling_line(shuffled)
+    again = range(sent["tiltmeter"], sent["tiltmeter"] + FLOOD)  # taken, as the reseed before the key set spent to 0
+    tilt = INSTRUMENTS["tiltmeter"]
+    left = given(shuffled.next, [(tilt, pool, bytes(readings(tilt, turn))) for pool, turn in enumerate(again)])
+    yield from tally_lines(
+        {**sent, "tiltmeter": again.stop},
+        {**taken, "tiltmeter": taken["tiltmeter"] + FLOOD},
+        {**dict.fromkeys(INSTRUMENTS, 0), "tiltmeter": COST * FLOOD},
+    )
+    yield f"seed for the next start: {station.write(left, 2000, updated.buffer).buffer.hex()}"
 
 
 def lines():
@@ -102,14 +152,16 @@ def lines():
     yield f"event for pool 32: refused, {refused.number} (no such pool)"
     yield "cutoff 1: refused, 34 (a cutoff outside 2 to 512)"
     slot = station.draw(refused.next, 1200, 100, 64)
-    yield f"slot at 1200 ms, pools emptied {slot.emptied}: {slot.buffer}"
+    yield slot_line(1200, slot)
     shuffled = station.shuffle(slot.next, 1250, tuple(range(1, 9)))
-    yield f"polling list: {' '.join(map(str, shuffled.buffer))}"
+    yield polling_line(shuffled)
     yield f"requests on the key since the last pool reseed: {shuffled.next.key_requests}"
-    yield f"seed for the next start: {station.write(shuffled.next, 2000, updated.buffer).buffer.hex()}"
+    written = station.write(shuffled.next, 2000, updated.buffer)
+    yield f"seed for the next start: {written.buffer.hex()}"
     yield "a log's answers:"
     yield from (line.decode().rstrip() for line in logbook.answers(io.BytesIO(LOG)))
     yield from works_lines()
+    yield from flood_lines(written.buffer)
 
 
 def main(args):

@@ -3,8 +3,8 @@
 use std::fmt;
 use std::mem::{offset_of, size_of};
 
-/// Why a call was refused, with the number of the header. After a refusal state and buffers are as before, save that
-/// after `NoneDrawn` the state has advanced by the tries made.
+/// Why a call was refused, with the number of the header. After a refusal state, buffers and quotas are as before, save
+/// that after `NoneDrawn` the state has advanced by the tries made, and if they made a pool reseed, nothing is spent.
 #[derive(Clone, Copy, Debug, PartialEq, Eq)]
 pub enum Refusal {
     BadSource = 11,
@@ -23,6 +23,9 @@ pub enum Refusal {
     CutoffRange = 34,
     MalformedHealth = 35,
     BlankSeed = 36,
+    BadQuotas = 37,
+    NotListed = 38,
+    OverAllowance = 39,
 }
 
 impl Refusal {
@@ -44,6 +47,9 @@ impl Refusal {
             34 => Refusal::CutoffRange,
             35 => Refusal::MalformedHealth,
             36 => Refusal::BlankSeed,
+            37 => Refusal::BadQuotas,
+            38 => Refusal::NotListed,
+            39 => Refusal::OverAllowance,
             _ => unreachable!("the header has no number {number} for these calls"),
         }
     }
@@ -68,6 +74,11 @@ impl Refusal {
             Refusal::CutoffRange => "a cutoff outside 2 to 512",
             Refusal::MalformedHealth => "a malformed test state",
             Refusal::BlankSeed => "a blank seed: 64 equal bytes",
+            Refusal::BadQuotas => {
+                "a list above 64 quotas, with a repeated source, or with more spent than allowed"
+            }
+            Refusal::NotListed => "a source with no quota",
+            Refusal::OverAllowance => "more than the source's allowance",
         }
     }
 }
@@ -181,6 +192,26 @@ struct Draw {
     value: u64,
 }
 
+/// What a source may bring between two pool reseeds, in bytes, each event's 3 of header too, and what it has brought.
+#[repr(C)]
+#[derive(Clone, Copy, Debug, PartialEq, Eq)]
+pub struct Quota {
+    pub source: u32,
+    pub allowance: u32,
+    pub spent: u32,
+}
+
+impl Quota {
+    /// Nothing is spent.
+    pub const fn new(source: u32, allowance: u32) -> Quota {
+        Quota {
+            source,
+            allowance,
+            spent: 0,
+        }
+    }
+}
+
 #[repr(C)]
 struct HealthState {
     last: u32,
@@ -202,6 +233,7 @@ struct HealthAnswer {
 const _: () = assert!(size_of::<Pool>() == 104 && size_of::<State>() == 3392);
 const _: () = assert!(size_of::<Answer>() == 8 && size_of::<Draw>() == 16);
 const _: () = assert!(offset_of!(State, key_requests) == 3386);
+const _: () = assert!(size_of::<Quota>() == 12 && offset_of!(Quota, spent) == 8);
 const _: () = assert!(size_of::<HealthState>() == 20 && offset_of!(HealthState, seen) == 16);
 const _: () = assert!(size_of::<HealthAnswer>() == 16 && offset_of!(HealthAnswer, place) == 8);
 const _: () = assert!(offset_of!(HealthAnswer, proportion) == 5);
@@ -226,6 +258,55 @@ extern "C" {
     fn fortuna_write(state: *mut State, clock: u32, seed: *mut u8, length: usize) -> Answer;
     fn fortuna_random_below(state: *mut State, clock: u32, n: u64, tries: u32) -> Draw;
     fn fortuna_shuffle(state: *mut State, clock: u32, list: *mut u16, length: usize) -> Answer;
+    fn fortuna_metered_event(
+        state: *mut State,
+        quotas: *mut Quota,
+        records: usize,
+        source: u32,
+        pool: u32,
+        data: *const u8,
+        length: usize,
+    ) -> u32;
+    fn fortuna_metered_request(
+        state: *mut State,
+        quotas: *mut Quota,
+        records: usize,
+        clock: u32,
+        out: *mut u8,
+        length: usize,
+    ) -> Answer;
+    fn fortuna_metered_update(
+        state: *mut State,
+        quotas: *mut Quota,
+        records: usize,
+        clock: u32,
+        seed: *mut u8,
+        length: usize,
+    ) -> Answer;
+    fn fortuna_metered_write(
+        state: *mut State,
+        quotas: *mut Quota,
+        records: usize,
+        clock: u32,
+        seed: *mut u8,
+        length: usize,
+    ) -> Answer;
+    fn fortuna_metered_random_below(
+        state: *mut State,
+        quotas: *mut Quota,
+        records: usize,
+        clock: u32,
+        n: u64,
+        tries: u32,
+    ) -> Draw;
+    fn fortuna_metered_shuffle(
+        state: *mut State,
+        quotas: *mut Quota,
+        records: usize,
+        clock: u32,
+        list: *mut u16,
+        length: usize,
+    ) -> Answer;
     fn fortuna_log(log: *const u8, length: usize, out: *mut u8, room: usize) -> usize;
     fn fortuna_health_new() -> HealthState;
     fn fortuna_health_test(
@@ -250,8 +331,8 @@ pub struct Fortuna {
     state: State,
 }
 
-// In each call below, those of Health too, pointer and length are those of one slice, which lasts for the call and
-// overlaps nothing else, nor the state. The pointer of an empty slice is not null either.
+// In each call below, those of Health too, a pointer and the length after it are those of one slice, which lasts for
+// the call and overlaps nothing else, nor the state. The pointer of an empty slice is not null either.
 impl Fortuna {
     /// Unseeded, with empty pools.
     #[allow(clippy::new_without_default)]
@@ -263,10 +344,7 @@ impl Fortuna {
 
     /// A pool gains 1 to 32 bytes of noise from a source, whose number is at most 65,535.
     pub fn event(&mut self, source: u32, pool: u32, data: &[u8]) -> Result<(), Refusal> {
-        match unsafe { fortuna_event(&mut self.state, source, pool, data.as_ptr(), data.len()) } {
-            0 => Ok(()),
-            number => Err(Refusal::from_number(number)),
-        }
+        noted(unsafe { fortuna_event(&mut self.state, source, pool, data.as_ptr(), data.len()) })
     }
 
     /// Fills `out`, after a pool reseed if one is due. Gives how many pools were emptied, as the seed calls do.
@@ -291,12 +369,7 @@ impl Fortuna {
 
     /// A value below `n`, 1 to 2^32, in up to `tries` tries, 1 to 64.
     pub fn random_below(&mut self, clock: u32, n: u64, tries: u32) -> Result<Drawn, NotDrawn> {
-        let draw = unsafe { fortuna_random_below(&mut self.state, clock, n, tries) };
-        let emptied = drawn(draw.number, draw.emptied)?;
-        Ok(Drawn {
-            value: draw.value,
-            emptied,
-        })
+        value(unsafe { fortuna_random_below(&mut self.state, clock, n, tries) })
     }
 
     /// Shuffles up to 256 numbers, no two of them equal. Gives how many pools were emptied.
@@ -311,6 +384,93 @@ impl Fortuna {
     /// as 1.
     pub fn key_requests(&self) -> u16 {
         self.state.key_requests
+    }
+}
+
+/// The calls with quotas: a list of what each source may still bring, so that one that chatters can't crowd out the
+/// others. Each is as the method of the same name without `metered_`, with the same refusals, and `BadQuotas` beside
+/// them: a list above 64 quotas, one with a repeated source, or one with more spent than allowed.
+///
+/// An accepted event adds 3 and its data's length to what its source has spent. A call that made a pool reseed, which
+/// is one that emptied pools, sets all spent to 0, `NoneDrawn` included. Nothing else changes the list. Lend every call
+/// on the state the list that the last one left: then no source brings more than its allowance from one pool reseed to
+/// the next. A call without the list neither looks at it nor clears it.
+impl Fortuna {
+    /// `NotListed`: the source has no quota. `OverAllowance`: the event would bring the source above its allowance.
+    pub fn metered_event(
+        &mut self,
+        quotas: &mut [Quota],
+        source: u32,
+        pool: u32,
+        data: &[u8],
+    ) -> Result<(), Refusal> {
+        let (list, records) = (quotas.as_mut_ptr(), quotas.len());
+        let (at, length) = (data.as_ptr(), data.len());
+        noted(unsafe {
+            fortuna_metered_event(&mut self.state, list, records, source, pool, at, length)
+        })
+    }
+
+    pub fn metered_request(
+        &mut self,
+        quotas: &mut [Quota],
+        clock: u32,
+        out: &mut [u8],
+    ) -> Result<u32, Refusal> {
+        let (list, records) = (quotas.as_mut_ptr(), quotas.len());
+        let (at, length) = (out.as_mut_ptr(), out.len());
+        result(unsafe {
+            fortuna_metered_request(&mut self.state, list, records, clock, at, length)
+        })
+    }
+
+    pub fn metered_update(
+        &mut self,
+        quotas: &mut [Quota],
+        clock: u32,
+        seed: &mut [u8; 64],
+    ) -> Result<u32, Refusal> {
+        let (list, records) = (quotas.as_mut_ptr(), quotas.len());
+        let (at, length) = (seed.as_mut_ptr(), seed.len());
+        result(unsafe { fortuna_metered_update(&mut self.state, list, records, clock, at, length) })
+    }
+
+    pub fn metered_write(
+        &mut self,
+        quotas: &mut [Quota],
+        clock: u32,
+        seed: &mut [u8; 64],
+    ) -> Result<u32, Refusal> {
+        let (list, records) = (quotas.as_mut_ptr(), quotas.len());
+        let (at, length) = (seed.as_mut_ptr(), seed.len());
+        result(unsafe { fortuna_metered_write(&mut self.state, list, records, clock, at, length) })
+    }
+
+    pub fn metered_random_below(
+        &mut self,
+        quotas: &mut [Quota],
+        clock: u32,
+        n: u64,
+        tries: u32,
+    ) -> Result<Drawn, NotDrawn> {
+        let (list, records) = (quotas.as_mut_ptr(), quotas.len());
+        value(unsafe {
+            fortuna_metered_random_below(&mut self.state, list, records, clock, n, tries)
+        })
+    }
+
+    /// A list of 0 or 1 numbers makes no request, but the quotas are looked at.
+    pub fn metered_shuffle(
+        &mut self,
+        quotas: &mut [Quota],
+        clock: u32,
+        list: &mut [u16],
+    ) -> Result<u32, NotDrawn> {
+        let (quotas, records) = (quotas.as_mut_ptr(), quotas.len());
+        let (at, length) = (list.as_mut_ptr(), list.len());
+        let answer =
+            unsafe { fortuna_metered_shuffle(&mut self.state, quotas, records, clock, at, length) };
+        drawn(answer.number, answer.emptied)
     }
 }
 
@@ -400,6 +560,13 @@ impl Aes256Bytewise {
     }
 }
 
+fn noted(number: u32) -> Result<(), Refusal> {
+    match number {
+        0 => Ok(()),
+        number => Err(Refusal::from_number(number)),
+    }
+}
+
 fn result(answer: Answer) -> Result<u32, Refusal> {
     match answer.number {
         0 => Ok(answer.emptied),
@@ -415,6 +582,14 @@ fn drawn(number: u32, emptied: u32) -> Result<u32, NotDrawn> {
             emptied,
         }),
     }
+}
+
+fn value(draw: Draw) -> Result<Drawn, NotDrawn> {
+    let emptied = drawn(draw.number, draw.emptied)?;
+    Ok(Drawn {
+        value: draw.value,
+        emptied,
+    })
 }
 
 /// Runs a log of calls from a fresh station. `out` takes as many characters of the answers as it has room for; gives how many.

@@ -2,13 +2,15 @@
 //! key is drawn, noise is tested and goes in as events, link keys, a radio slot and the order of a
 //! polling list come out. One source gets stuck: the health tests tell before its stuck readings
 //! become an event. Another digitiser is fresh from the works: its page of flash memory was
-//! never written, so it waits for noise before it has a seed. Noise, clock and flash pages are
-//! stand-ins, so that each run prints the same.
+//! never written, so it waits for noise before it has a seed. At the last power-up a tiltmeter
+//! floods: a list of quotas turns back what is too much, and the seismometer goes on. Noise, clock
+//! and flash pages are stand-ins, so that each run prints the same.
 //!
 //! One call at a time on a state: `main` owns it, and each call borrows it alone. Noise from interrupts or other
 //! threads would come through a queue.
 use fortuna::{
-    run_log, sha_d256, Aes256, Aes256Bytewise, Drawn, Fortuna, Health, NotPassed, Refusal,
+    run_log, sha_d256, Aes256, Aes256Bytewise, Drawn, Fortuna, Health, NotDrawn, NotPassed, Quota,
+    Refusal,
 };
 
 /// A source may be any number up to 65,535.
@@ -26,6 +28,13 @@ const FIRST_EVENTS: u32 = 9;
 const POOLS: u32 = 32;
 const SLOTS: u64 = 100;
 const TRIES: u32 = 64;
+const STATIONS: [u16; 8] = [1, 2, 3, 4, 5, 6, 7, 8];
+/// What an instrument may bring from one pool reseed to the next: an event for each pool, 3 bytes of header each. As
+/// each goes round the pools, it brings 35 of the 64 bytes that pool 0 needs for a reseed, and another must bring the
+/// rest.
+const ALLOWANCE: u32 = POOLS * (3 + READINGS as u32);
+/// The events that the tiltmeter sends where others send one.
+const FLOOD: u32 = 10;
 
 /// Stands in for the page of flash memory that keeps the seed, as it is read.
 fn stored_seed() -> [u8; 64] {
@@ -130,16 +139,21 @@ fn gather_noise(f: &mut Fortuna, sources: &mut [Source]) -> Result<(), Refusal> 
     Ok(())
 }
 
-/// A key, or why there is none: a caller can wait for noise and ask again.
-fn draw_key(f: &mut Fortuna, clock: u32) {
-    let mut key = [0; 32];
-    match f.request(clock, &mut key) {
+fn show_key(clock: u32, answer: Result<u32, Refusal>, key: &[u8]) {
+    match answer {
         Ok(emptied) => println!(
             "key at {clock} ms, pools emptied {emptied}: {}",
-            hexadecimal(&key)
+            hexadecimal(key)
         ),
         Err(refusal) => println!("key at {clock} ms: {refusal}"),
     }
+}
+
+/// A key, or why there is none: a caller can wait for noise and ask again.
+fn draw_key(f: &mut Fortuna, clock: u32) {
+    let mut key = [0; 32];
+    let answer = f.request(clock, &mut key);
+    show_key(clock, answer, &key);
 }
 
 /// Stands in for storing the page in flash memory.
@@ -211,8 +225,8 @@ fn misjudge_cutoff() {
 }
 
 /// A radio slot, or why there is none: after `NoneDrawn` a caller can draw again, from the state that is left.
-fn draw_slot(f: &mut Fortuna, clock: u32) {
-    match f.random_below(clock, SLOTS, TRIES) {
+fn show_slot(clock: u32, answer: Result<Drawn, NotDrawn>) {
+    match answer {
         Ok(Drawn { value, emptied }) => {
             println!("slot at {clock} ms, pools emptied {emptied}: {value}")
         }
@@ -220,12 +234,20 @@ fn draw_slot(f: &mut Fortuna, clock: u32) {
     }
 }
 
-/// The order in which a hub polls its stations.
-fn order_stations(f: &mut Fortuna, clock: u32) -> Result<(), Refusal> {
-    let mut list = [1, 2, 3, 4, 5, 6, 7, 8];
-    f.shuffle(clock, &mut list)?;
+fn draw_slot(f: &mut Fortuna, clock: u32) {
+    show_slot(clock, f.random_below(clock, SLOTS, TRIES));
+}
+
+fn show_order(list: &[u16]) {
     let order: Vec<String> = list.iter().map(u16::to_string).collect();
     println!("polling list: {}", order.join(" "));
+}
+
+/// The order in which a hub polls its stations.
+fn order_stations(f: &mut Fortuna, clock: u32) -> Result<(), Refusal> {
+    let mut list = STATIONS;
+    f.shuffle(clock, &mut list)?;
+    show_order(&list);
     Ok(())
 }
 
@@ -261,6 +283,131 @@ fn start_twice() -> Result<(), Refusal> {
     Ok(())
 }
 
+/// An instrument, and how many of its events were taken and refused. Health tests are left out here: a device has them
+/// with a list as without.
+struct Instrument {
+    name: &'static str,
+    number: u32,
+    taken: u32,
+    refused: u32,
+}
+
+const fn instrument(name: &'static str, number: u32) -> Instrument {
+    Instrument {
+        name,
+        number,
+        taken: 0,
+        refused: 0,
+    }
+}
+
+/// The station with its list of quotas. Every call gets the list, those that draw too: without it an event is charged
+/// to nobody, and a pool reseed clears nothing.
+struct Metered {
+    f: Fortuna,
+    quotas: [Quota; 3],
+}
+
+impl Metered {
+    /// By rising sources, which makes the check of the list quicker.
+    fn new(instruments: &[Instrument; 3]) -> Metered {
+        Metered {
+            f: Fortuna::new(),
+            quotas: instruments
+                .each_ref()
+                .map(|from| Quota::new(from.number, ALLOWANCE)),
+        }
+    }
+
+    fn event(&mut self, number: u32, turn: u32, pool: u32) -> Result<(), Refusal> {
+        let data = readings(number, turn).map(|r| r as u8);
+        self.f.metered_event(&mut self.quotas, number, pool, &data)
+    }
+
+    /// An instrument's next event, for the pool after that of its last one taken. Too much is no fault of the device:
+    /// the event is dropped, and after the next pool reseed others are taken.
+    fn send_event(&mut self, from: &mut Instrument) -> Result<(), Refusal> {
+        let turn = from.taken + from.refused;
+        match self.event(from.number, turn, from.taken % POOLS) {
+            Err(refusal @ Refusal::OverAllowance) => {
+                if from.refused == 0 {
+                    println!("{}, event {}: {refusal}", from.name, turn + 1);
+                }
+                from.refused += 1;
+            }
+            answer => {
+                answer?;
+                from.taken += 1;
+            }
+        }
+        Ok(())
+    }
+
+    fn send_flood(&mut self, from: &mut Instrument) -> Result<(), Refusal> {
+        (0..FLOOD).try_for_each(|_| self.send_event(from))
+    }
+
+    /// A round of the pools: in each turn the others send an event each, and the tiltmeter many.
+    fn send_round(&mut self, instruments: &mut [Instrument; 3]) -> Result<(), Refusal> {
+        let [seismometer, tiltmeter, barometer] = instruments;
+        for _ in 0..POOLS {
+            self.send_flood(tiltmeter)?;
+            self.send_event(seismometer)?;
+            self.send_event(barometer)?;
+        }
+        Ok(())
+    }
+
+    fn show(&self, instruments: &[Instrument; 3]) {
+        for (from, quota) in instruments.iter().zip(&self.quotas) {
+            println!(
+                "{}: {} events taken, {} refused, {} of {} bytes spent",
+                from.name, from.taken, from.refused, quota.spent, quota.allowance
+            );
+        }
+    }
+
+    /// The calls that draw, each with the list. The first makes the pool reseed, after which nothing is spent.
+    fn draw(&mut self, clock: u32) -> Result<(), Refusal> {
+        let (mut key, mut list) = ([0; 32], STATIONS);
+        let quotas = &mut self.quotas;
+        let answer = self.f.metered_request(quotas, clock, &mut key);
+        show_key(clock, answer, &key);
+        show_slot(
+            clock,
+            self.f.metered_random_below(quotas, clock, SLOTS, TRIES),
+        );
+        self.f.metered_shuffle(quotas, clock, &mut list)?;
+        show_order(&list);
+        Ok(())
+    }
+}
+
+/// A power-up from the seed that the last one left, with a list from the first call to the last.
+fn flood(page: &mut [u8; 64]) -> Result<(), Refusal> {
+    let mut instruments = [
+        instrument("seismometer", 1),
+        instrument("tiltmeter", 4),
+        instrument("barometer", 900),
+    ];
+    let mut m = Metered::new(&instruments);
+    println!("a tiltmeter floods");
+    m.f.metered_update(&mut m.quotas, 10, page)?;
+    store("seed updated", page);
+    m.send_round(&mut instruments)?;
+    // a source that nobody put on the list
+    if let Err(refusal) = m.event(7, 0, 0) {
+        println!("event of source 7: {refusal}");
+    }
+    m.show(&instruments);
+    m.draw(1000)?;
+    m.send_flood(&mut instruments[1])?; // taken again, after the pool reseed
+    m.show(&instruments);
+    m.f.metered_write(&mut m.quotas, 2000, page)?;
+    store("seed for the next start", page);
+    Ok(())
+}
+
 fn main() -> Result<(), Refusal> {
     show_edition()?;
     show_ciphers();
@@ -283,5 +430,6 @@ fn main() -> Result<(), Refusal> {
 
     write_seed(&mut f, 2000, &mut flash)?;
     replay();
-    start_twice()
+    start_twice()?;
+    flood(&mut flash)
 }

@@ -1,16 +1,18 @@
 /* Every call that works on a key, with the key's bytes marked as unknown to memcheck: it reports each jump, and each
    address, that they decide. As 'calls blank' and 'calls other' it makes one seed update, by a blank page or by
-   one whose last byte is another, with the seed's bytes unknown in place of the key's. */
+   one whose last byte is another, with the seed's bytes unknown in place of the key's. A list of quotas is no secret,
+   and known throughout: whether it is cleared must not go by the key. */
 #include <fortuna.h>
 #include <stdio.h>
 #include <stdlib.h>
 #include <string.h>
 #include <valgrind/memcheck.h>
 
-enum { OUTPUT = 40, SEED = 64, CLOCK = 1000, SLOTS = 900 };
+enum { OUTPUT = 40, SEED = 64, CLOCK = 1000, SLOTS = 900, RECORDS = 64 };
 
 static uint8_t output[OUTPUT];
 static uint8_t seed[SEED];
+static fortuna_quota quotas[RECORDS];
 
 static void answered(const char *call, uint32_t number, uint32_t expected)
 {
@@ -52,6 +54,59 @@ static void station_calls(void)
     done("shuffle", fortuna_shuffle(&s, CLOCK, list, sizeof list / sizeof list[0]).number);
 }
 
+/* A list whose first record lets one event through. Rising sources make one way through its check, falling ones the
+   other. */
+static void fill_quotas(bool falling)
+{
+    for (uint32_t i = 0; i < RECORDS; i++)
+        quotas[i] = (fortuna_quota){.source = falling ? RECORDS - i : 1 + i, .allowance = 70, .spent = 35};
+}
+
+static void cleared(const char *call)
+{
+    for (size_t i = 0; i < RECORDS; i++)
+        answered(call, quotas[i].spent, 0);
+}
+
+/* The same calls with a list, and with lists that refuse. */
+static void metered_calls(bool falling)
+{
+    fortuna_state s = station();
+    uint16_t list[] = {3, 1, 4, 15, 9};
+    fill_quotas(falling);
+    done("metered event", fortuna_metered_event(&s, quotas, RECORDS, 1, 1, seed, 32));
+    answered("event over its allowance", fortuna_metered_event(&s, quotas, RECORDS, 1, 1, seed, 32),
+             FORTUNA_OVER_ALLOWANCE);
+    answered("event not listed", fortuna_metered_event(&s, quotas, 0, 1, 1, seed, 32), FORTUNA_NOT_LISTED);
+    done("metered request with a reseed", fortuna_metered_request(&s, quotas, RECORDS, CLOCK, output, OUTPUT).number);
+    cleared("metered request with a reseed");
+    done("metered request", fortuna_metered_request(&s, quotas, RECORDS, CLOCK, output, OUTPUT).number);
+    done("metered write", fortuna_metered_write(&s, quotas, RECORDS, CLOCK, seed, SEED).number);
+    VALGRIND_MAKE_MEM_DEFINED(seed, SEED);
+    done("metered update", fortuna_metered_update(&s, quotas, RECORDS, CLOCK, seed, SEED).number);
+    done("metered draw", fortuna_metered_random_below(&s, quotas, RECORDS, CLOCK, SLOTS, 64).number);
+    done("metered shuffle",
+         fortuna_metered_shuffle(&s, quotas, RECORDS, CLOCK, list, sizeof list / sizeof list[0]).number);
+    quotas[RECORDS - 1].allowance = 0;
+    quotas[RECORDS - 1].spent = 1;
+    answered("request with a bad list", fortuna_metered_request(&s, quotas, RECORDS, CLOCK, output, OUTPUT).number,
+             FORTUNA_BAD_QUOTAS);
+}
+
+/* A draw and a shuffle that make a pool reseed, so that they clear a list. */
+static void metered_draws(void)
+{
+    fortuna_state s = station(), t = station();
+    uint16_t list[] = {3, 1, 4, 15, 9};
+    fill_quotas(false);
+    done("metered draw with a reseed", fortuna_metered_random_below(&s, quotas, RECORDS, CLOCK, SLOTS, 64).number);
+    cleared("metered draw with a reseed");
+    fill_quotas(false);
+    done("metered shuffle with a reseed",
+         fortuna_metered_shuffle(&t, quotas, RECORDS, CLOCK, list, sizeof list / sizeof list[0]).number);
+    cleared("metered shuffle with a reseed");
+}
+
 static void generator_calls(void)
 {
     fortuna_generator g = station().generator;
@@ -87,6 +142,9 @@ int main(int count, char **words)
         update_by(0xfe, FORTUNA_DONE);
     } else {
         station_calls();
+        metered_calls(false);
+        metered_calls(true);
+        metered_draws();
         generator_calls();
         cipher_calls();
     }
