@@ -230,8 +230,12 @@ class Logbook:
         """What the call gives, and the list left. The list's numbers stand between those of the input and of the state,
         which the call looks at by itself."""
         refusal = self.input_refusal(name, *arguments) or self.list_refusal(quotas, name, *arguments)
-        given = (refusal, 0, as_lent(name, arguments)) if refusal else getattr(self, name)(*arguments)
+        given = (refusal, 0, as_lent(name, arguments)) if refusal else self.plain(name, *arguments)
         return *given, self.list_left(quotas, *given[:2], name, *arguments)
+
+    def plain(self, name, *arguments):
+        """The call without a list."""
+        return getattr(self, name)(*arguments)
 
     def list_refusal(self, quotas, name, *arguments):
         if self.bad_list(quotas):
