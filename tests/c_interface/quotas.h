@@ -1,4 +1,4 @@
-/* The six calls, each with a list of quotas (02, x) or without one, for the programs that make calls as they are told. */
+/* The six calls, each with a list of quotas (02, x) or without one, for programs that make calls as they are told. */
 #ifndef QUOTAS_H
 #define QUOTAS_H
 

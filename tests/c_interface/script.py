@@ -130,8 +130,8 @@ def result_words(name, number, result):
 
 
 def answer(call, line):
-    """The answer to a line; call takes a call's name and arguments and gives number, pools emptied, result, for a metered
-    call the quotas left, and the state's number of requests on the key."""
+    """The answer to a line; call takes a call's name and arguments and gives number, pools emptied, result, for a
+    metered call the quotas left, and the state's number of requests on the key."""
     name, *arguments = call_of(line)
     number, emptied, result, *left, requests = call(name, *arguments)
     if name == "metered":

@@ -359,9 +359,9 @@ def with_tries(call, tries):
     return lambda name, *rest: call(name, *rest, *([tries] if "shuffle" in (name, *rest[:1]) else []))
 
 
-def both(lines, tries, start=generator.FRESH):
-    """The answers of either program, which are the same, as are the states left."""
-    book, carried = Book(), Carried(start)
+def both(lines, tries, start=generator.FRESH, kind=Book):
+    """The answers of either program, which are the same, as are the states left; kind is the logbook's class."""
+    book, carried = kind(), Carried(start)
     book.generator = start
     answers = script.answers(with_tries(book.call, tries), lines)
     compare(lines, answers, script.answers(with_tries(carried.call, tries), lines))
