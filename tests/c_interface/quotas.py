@@ -10,7 +10,8 @@ and their answers by tests/independent/logbook.py.
                                            script.c, beside this
     quotas.py --self-test [--seconds S] [--seed N]
                                            the same to tests/independent/station.py, with the state left as well; then
-                                           wrong versions, each of which a stored script must tell from the right one
+                                           wrong versions, each of which a stored script, or where no script gets to
+                                           it a chosen state of states_fuzz.py, must tell from the right one
 
 Nothing in the long and the stored scripts comes from chance. The promises are looked for in the answers of the program
 alone: no source passes its allowance between pool reseeds, and events of other sources change no number of a source."""
@@ -27,6 +28,7 @@ sys.path += [str(Path(__file__).resolve().parents[1] / folder) for folder in ("i
 import fuzz
 import script
 import slots
+import states_fuzz
 import wrong_quotas
 from frames import HEADER, MOST_DATA, blank_page, log_of
 from generator import MAX_REQUEST
@@ -179,13 +181,13 @@ def reseeds(maker):
     and calls that are refused while the reseed is due, and after it the same call, with no reseed due."""
     yield script.update(0, PAGE)
     clock = 1000
-    for name, turn in product(range(1, 6), range(2)):
+    for place, turn in product(range(1, 6), range(2)):
         mark, clock = clock, clock + 101
         yield from spending(maker)
-        if (name, turn) != (1, 0):
-            yield metered([*calls(maker, mark + 100)][name])
+        if (place, turn) != (1, 0):  # the first reseed of all waits for no time
+            yield metered([*calls(maker, mark + 100)][place])
         yield from each_metered([script.draw(clock, 0, 1), script.update(clock, blank_page(0xFF))])
-        call = [*calls(maker, clock)][name]
+        call = [*calls(maker, clock)][place]
         yield from (metered(call), metered(call))
         yield from again(maker)
         yield metered(call)
@@ -194,11 +196,11 @@ def reseeds(maker):
 def refused_while_due(maker):
     """A reseed that is due stays due: a bad list makes none, and a call without a list clears none."""
     yield script.update(0, PAGE)
-    for name in range(1, 6):
-        clock = 5000 + 101 * name
+    for place in range(1, 6):
+        clock = 5000 + 101 * place
         yield from spending(maker)
         yield from (script.quotas(BAD), *each_metered(calls(maker, clock)), script.quotas(GOOD))
-        yield [*calls(maker, clock)][name]
+        yield [*calls(maker, clock)][place]
         yield from each_metered([*calls(maker, clock), *still(clock)])
 
 
@@ -268,11 +270,11 @@ def mixed(maker, turns):
         yield metered(line) if maker.below(4) else line
 
 
-def stored_mix(maker):
+def any_calls(maker):
     return mixed(maker, 150)
 
 
-STORED = (allowances, lists, order, reseeds, refused_while_due, draws, handed, stored_mix)
+STORED = (allowances, lists, order, reseeds, refused_while_due, draws, handed, any_calls)
 
 
 def stored():
@@ -607,6 +609,18 @@ def wrong_versions_told():
     return well
 
 
+def wrong_on_states_told():
+    """Whether the chosen single states tell each version that goes wrong where no script gets to."""
+    cases = [*states_fuzz.quota_cases(random.Random("single states"))]
+    right = [case.expected() for case in cases]
+    well = True
+    for text, version in wrong_quotas.WRONG_ON_STATES.items():
+        told_by = sum(version(*case.with_quotas()) != expected for case, expected in zip(cases, right))
+        well &= told_by > 0
+        print(f"{'pass' if told_by else 'FAIL'}  one that {text}: told by {told_by} of {len(cases)} single states")
+    return well
+
+
 def promise_broken(version):
     """The start of what the runs find; None where they find nothing."""
     try:
@@ -639,7 +653,7 @@ def self_test(seconds, seed):
         by_both(chance.choice((1, 2, MAX_TRIES)))(Writer(chance).log())
         scripts += 1
     print(f"pass  {scripts} random scripts, no difference")
-    return 0 if wrong_versions_told() and broken_promises_found() else 1
+    return 0 if all([wrong_versions_told(), wrong_on_states_told(), broken_promises_found()]) else 1
 
 
 # ---- modes

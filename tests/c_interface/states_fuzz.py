@@ -97,7 +97,11 @@ class Case:
         """The outcome and the quotas left."""
         if self.quotas is None:
             return self.plain(), None
-        return station.metered(self.call(), self.state, self.quotas, *self.arguments())
+        return station.metered(*self.with_quotas())
+
+    def with_quotas(self):
+        """The arguments of a call with quotas, as the station takes them."""
+        return self.call(), self.state, self.quotas, *self.arguments()
 
 
 # ---- lines

@@ -1,6 +1,8 @@
 """The logbook as scripts with quotas call it, and wrong versions of it. quotas.py, beside this, shows that its stored
-scripts tell each of these from the right one."""
+scripts tell each of these from the right one. Where no script gets to, there are wrong versions of the station, which
+the chosen single states must tell."""
 import slots
+import station
 from logbook import MAX_QUOTAS, MAX_TRIES, Quota, as_lent
 
 OUTPUT_CALLS = ("request", "update", "write", "draw", "shuffle")
@@ -421,6 +423,44 @@ WRONG_CLEARINGS = (
 )
 
 ALL = (*WRONG_LISTS, *WRONG_ALLOWANCES, *WRONG_ORDERS, *WRONG_CHARGES, *WRONG_CLEARINGS)
+
+# ---- wrong versions of the station, for numbers of the state that no script gets
+
+
+def after_state(*numbers):
+    """The list is looked at after these numbers."""
+
+    def metered(call, state, records, *arguments):
+        outcome = call(state, *arguments)
+        return (outcome, records) if outcome.number in numbers else station.metered(call, state, records, *arguments)
+
+    return metered
+
+
+def left_after(number, left):
+    """A call that the state turns back with a number leaves another list."""
+
+    def metered(call, state, records, *arguments):
+        outcome, right = station.metered(call, state, records, *arguments)
+        return outcome, left(records, *arguments) if outcome.number == number else right
+
+    return metered
+
+
+def after_charge(records, source, pool, data):
+    return station.charged(records, source, len(data))
+
+
+def after_clearing(records, *arguments):
+    return station.cleared(records)
+
+
+WRONG_ON_STATES = {
+    **{f"looks for {number} before the list": after_state(number) for number in (21, 22, 23, 24)},
+    "charges an event that 22 turns back": left_after(22, after_charge),
+    **{f"clears a list though {number} turns the call back": left_after(number, after_clearing) for number in (21, 23, 24)},
+}
+
 
 # ---- versions that break what 02 (x) promises of every run, by what is found
 
