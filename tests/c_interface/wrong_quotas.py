@@ -457,8 +457,8 @@ def after_clearing(records, *arguments):
 
 WRONG_ON_STATES = {
     **{f"looks for {number} before the list": after_state(number) for number in (21, 22, 23, 24)},
+    **{f"clears the list where {number} turns back": left_after(number, after_clearing) for number in (21, 23, 24)},
     "charges an event that 22 turns back": left_after(22, after_charge),
-    **{f"clears a list though {number} turns the call back": left_after(number, after_clearing) for number in (21, 23, 24)},
 }
 
 
