@@ -313,6 +313,14 @@ def made_though(refusal):
     return {"with_list": with_list}
 
 
+def charges_tries(book, quotas, number, emptied, name, *arguments):
+    """What is left by a version that charges a draw without a value to the first record, as an event of 4 bytes."""
+    left = Book.list_left(book, quotas, number, emptied, name, *arguments)
+    if number != 33 or not quotas:
+        return left
+    return (left[0]._replace(spent=left[0].spent + 7), *left[1:])
+
+
 def charges_without_list(book, name, *arguments):
     """A call of a version whose events without a list are charged to the list that is held."""
     given = Book.call(book, name, *arguments)
@@ -331,6 +339,7 @@ WRONG_CHARGES = (
     wrong("charges the next record", **charged_at(lambda own, size: [(own + 1) % size])),
     wrong("charges all records", **charged_at(lambda own, size: range(size))),
     *(wrong(f"charges an event that {number} turns back", **charged_though(number)) for number in (12, 13, 21, 37, 39)),
+    wrong("charges a draw that gives 33", list_left=charges_tries),
     wrong("charges events without a list", call=charges_without_list),
     wrong("makes a call that 37 turns back", **made_though(37)),
     *(wrong(f"takes an event that {number} turns back into the pool", **made_though(number)) for number in (38, 39)),
