@@ -1,8 +1,10 @@
 /* Makes the calls of a script on standard input, all on one state, and prints their answers, each with the state's
-   key_requests after the call. script.py, beside this, says how the lines are laid out. */
+   key_requests after the call, and before it the list of quotas that a metered call left. script.py, beside this, says
+   how the lines are laid out. */
 #define _POSIX_C_SOURCE 200809L
 #include "fortuna.h"
 #include "lent.h"
+#include "quotas.h"
 
 #include <errno.h>
 #include <inttypes.h>
@@ -38,9 +40,14 @@ static uint64_t number(const char *digits, uint64_t most)
     return n;
 }
 
+static uint32_t part_number(char **rest, const char *separator)
+{
+    return (uint32_t)number(part(rest, separator), UINT32_MAX);
+}
+
 static uint32_t word_number(char **rest)
 {
-    return (uint32_t)number(word(rest), UINT32_MAX);
+    return part_number(rest, " ");
 }
 
 /* How many bytes the word stands for. */
@@ -56,8 +63,8 @@ static uint8_t *lend_bytes(const char *digits)
     return bytes;
 }
 
-/* How many numbers the list has. */
-static size_t numbers_in(const char *list)
+/* How many entries the list has. */
+static size_t entries_in(const char *list)
 {
     if (strcmp(list, "-") == 0)
         return 0;
@@ -71,11 +78,44 @@ static size_t numbers_in(const char *list)
 
 static uint16_t *lend_list(char *list)
 {
-    size_t length = numbers_in(list);
+    size_t length = entries_in(list);
     uint16_t *numbers = lend(length * sizeof *numbers);
     for (size_t i = 0; i < length; i++)
         numbers[i] = (uint16_t)number(part(&list, ","), UINT16_MAX);
     return numbers;
+}
+
+static quota_list lend_records(char *words)
+{
+    quota_list list = lend_quotas(entries_in(words));
+    for (size_t i = 0; i < list.count; i++) {
+        uint32_t source = part_number(&words, ":");
+        uint32_t allowance = part_number(&words, ":");
+        list.records[i] = (fortuna_quota){source, allowance, part_number(&words, ",")};
+    }
+    return list;
+}
+
+/* ---- the run: a state, the list of quotas that is held, and for the call that is made that list, or none */
+
+typedef struct {
+    fortuna_state state;
+    quota_list held;
+    const quota_list *taken;
+} run;
+
+/* Prints the list that a call left. It goes on in a new buffer, so that the one that was lent can be looked at. */
+static void leave_list(run *r)
+{
+    quota_list left = lend_quotas(r->held.count);
+    printf(left.count > 0 ? " " : " -");
+    for (size_t i = 0; i < left.count; i++) {
+        left.records[i] = r->held.records[i];
+        printf("%s%" PRIu32 ":%" PRIu32 ":%" PRIu32, i > 0 ? "," : "", left.records[i].source,
+            left.records[i].allowance, left.records[i].spent);
+    }
+    give_back_quotas(r->held);
+    r->held = left;
 }
 
 /* ---- the calls */
@@ -89,58 +129,58 @@ static void print_output(fortuna_answer a, const uint8_t *bytes, size_t length)
     }
 }
 
-static void event(fortuna_state *state, char *rest)
+static void event(run *r, char *rest)
 {
     uint32_t source = word_number(&rest);
     uint32_t pool = word_number(&rest);
     const char *digits = word(&rest);
     uint8_t *data = lend_bytes(digits);
-    printf("%" PRIu32, fortuna_event(state, source, pool, data, bytes_in(digits)));
+    printf("%" PRIu32, event_with(&r->state, r->taken, source, pool, data, bytes_in(digits)));
     give_back(data, bytes_in(digits));
 }
 
-static void request(fortuna_state *state, char *rest)
+static void request(run *r, char *rest)
 {
     uint32_t clock = word_number(&rest);
     size_t length = word_number(&rest);
     uint8_t *out = lend(length);
-    print_output(fortuna_request(state, clock, out, length), out, length);
+    print_output(request_with(&r->state, r->taken, clock, out, length), out, length);
     give_back(out, length);
 }
 
-static void update(fortuna_state *state, char *rest)
+static void update(run *r, char *rest)
 {
     uint32_t clock = word_number(&rest);
     const char *digits = word(&rest);
     size_t length = bytes_in(digits);
     uint8_t *seed = lend_bytes(digits);
-    print_output(fortuna_update(state, clock, seed, length), seed, length);
+    print_output(update_with(&r->state, r->taken, clock, seed, length), seed, length);
     give_back(seed, length);
 }
 
-static void write_seed(fortuna_state *state, char *rest)
+static void write_seed(run *r, char *rest)
 {
     uint32_t clock = word_number(&rest);
     uint8_t *seed = lend(SEED_SIZE);
-    print_output(fortuna_write(state, clock, seed, SEED_SIZE), seed, SEED_SIZE);
+    print_output(write_with(&r->state, r->taken, clock, seed, SEED_SIZE), seed, SEED_SIZE);
     give_back(seed, SEED_SIZE);
 }
 
-static void draw(fortuna_state *state, char *rest)
+static void draw(run *r, char *rest)
 {
     uint32_t clock = word_number(&rest);
     uint64_t n = number(word(&rest), UINT64_MAX);
-    fortuna_draw d = fortuna_random_below(state, clock, n, word_number(&rest));
+    fortuna_draw d = draw_with(&r->state, r->taken, clock, n, word_number(&rest));
     printf("%" PRIu32 " %" PRIu32 " %" PRIu64, d.number, d.emptied, d.value);
 }
 
-static void shuffle(fortuna_state *state, char *rest)
+static void shuffle(run *r, char *rest)
 {
     uint32_t clock = word_number(&rest);
     char *words = word(&rest);
-    size_t length = numbers_in(words);
+    size_t length = entries_in(words);
     uint16_t *list = lend_list(words);
-    fortuna_answer a = fortuna_shuffle(state, clock, list, length);
+    fortuna_answer a = shuffle_with(&r->state, r->taken, clock, list, length);
     printf("%" PRIu32 " %" PRIu32 "%s", a.number, a.emptied, length > 0 ? "" : " -");
     for (size_t i = 0; i < length; i++)
         printf("%c%" PRIu16, i > 0 ? ',' : ' ', list[i]);
@@ -148,42 +188,61 @@ static void shuffle(fortuna_state *state, char *rest)
 }
 
 /* No call: the number that a run of so many requests would have left. */
-static void counted(fortuna_state *state, char *rest)
+static void counted(run *r, char *rest)
 {
-    state->key_requests = (uint16_t)number(word(&rest), UINT16_MAX);
+    r->state.key_requests = (uint16_t)number(word(&rest), UINT16_MAX);
+    printf("%d", FORTUNA_DONE);
+}
+
+/* No call: the list that is held from now on. */
+static void quotas(run *r, char *rest)
+{
+    give_back_quotas(r->held);
+    r->held = lend_records(word(&rest));
     printf("%d", FORTUNA_DONE);
 }
 
 static const struct {
     const char *name;
-    void (*make)(fortuna_state *state, char *rest);
+    void (*make)(run *r, char *rest);
 } calls[] = {
     {"event", event}, {"request", request}, {"update", update},
     {"write", write_seed}, {"draw", draw}, {"shuffle", shuffle},
-    {"counted", counted},
+    {"counted", counted}, {"quotas", quotas},
 };
 
-static void answer(fortuna_state *state, char *line)
+static void make(run *r, char *line)
 {
     const char *name = word(&line);
     for (size_t i = 0; i < sizeof calls / sizeof *calls; i++)
         if (strcmp(name, calls[i].name) == 0) {
-            calls[i].make(state, line);
-            printf(" %" PRIu16 "\n", state->key_requests);
+            calls[i].make(r, line);
             return;
         }
     stop("a line with no call");
 }
 
+static void answer(run *r, char *line)
+{
+    const char metered[] = "metered ";
+    bool takes = strncmp(line, metered, strlen(metered)) == 0;
+    r->taken = takes ? &r->held : NULL;
+    make(r, takes ? line + strlen(metered) : line);
+    if (takes)
+        leave_list(r);
+    printf(" %" PRIu16 "\n", r->state.key_requests);
+}
+
 int main(void)
 {
-    fortuna_state state = fortuna_new();
+    run r = {fortuna_new(), lend_quotas(0), NULL};
     char *line = NULL;
     size_t room = 0;
     while (getline(&line, &room, stdin) > 0) {
         line[strcspn(line, "\n")] = '\0';
-        answer(&state, line);
+        answer(&r, line);
     }
+    give_back_quotas(r.held);
     free(line);
     return 0;
 }

@@ -1,4 +1,4 @@
-"""Scripts: calls as words on a line, draws and shuffles too, which no bench line makes.
+"""Scripts: calls as words on a line, draws, shuffles and calls with a list of quotas too, which no bench line makes.
 
     event SOURCE POOL DATA
     request CLOCK N
@@ -7,14 +7,18 @@
     draw CLOCK N TRIES
     shuffle CLOCK NUMBER,NUMBER,..
     counted REQUESTS
+    quotas SOURCE:ALLOWANCE:SPENT,..
+    metered CALL..
 
-The last is no call. It sets the requests on the key to a number up to 65,535 in a seeded state, as that many requests
-would have done: no script makes so many. Numbers are decimal, bytes lower-case hexadecimal; `-` stands for no bytes and
-for the empty list. An answer is the number, for all but events and `counted` then the pools emptied, and then the bytes
-of a request or seed call that was not refused, a draw's value, or the list that a shuffle left; last, for every line,
-the state's number of requests on the key. Lines are bytes without their LF, and made by the names of the calls, as in
-tests/independent/frames.py; tests/c_interface/script.c reads them too."""
-from logbook import SEED_SIZE
+`counted` is no call. It sets the requests on the key to a number up to 65,535 in a seeded state, as that many requests
+would have done: no script makes so many. Nor is `quotas`, which sets the list that is held; before it that is the empty
+list. `metered` stands before one of the six calls, which then takes the list that is held, and the list that it leaves
+is held on. Numbers are decimal, bytes lower-case hexadecimal; `-` stands for no bytes and for an empty list. An answer
+is the number, for all but events, `counted` and `quotas` then the pools emptied, and then the bytes of a request or
+seed call that was not refused, a draw's value, or the list that a shuffle left; for a metered call then the quotas
+left; last, for every line, the state's number of requests on the key. Lines are bytes without their LF, and made by the
+names of the calls, as in tests/independent/frames.py; tests/c_interface/script.c reads them too."""
+from logbook import SEED_SIZE, Quota
 
 # ---- lines of calls
 
@@ -63,6 +67,21 @@ def counted(requests):
     return b"counted %d" % requests
 
 
+def as_quotas(records):
+    return b",".join(b"%d:%d:%d" % tuple(record) for record in records) or b"-"
+
+
+def quotas(records):
+    return b"quotas " + as_quotas(records)
+
+
+METERED = b"metered "
+
+
+def metered(line):
+    return METERED + line
+
+
 # ---- reading and answering them
 
 
@@ -74,6 +93,10 @@ def list_of(word):
     return () if word == b"-" else tuple(map(int, word.split(b",")))
 
 
+def quotas_of(word):
+    return () if word == b"-" else tuple(Quota(*map(int, record.split(b":"))) for record in word.split(b","))
+
+
 READERS = {
     "event": (int, int, data_of),
     "request": (int, lambda n: bytes(int(n))),
@@ -82,12 +105,16 @@ READERS = {
     "draw": (int, int, int),
     "shuffle": (int, list_of),
     "counted": (int,),
+    "quotas": (quotas_of,),
 }
-EMPTIES_NONE = ("event", "counted")  # their answers have no pools emptied, and no result
+EMPTIES_NONE = ("event", "counted", "quotas")  # their answers have no pools emptied, and no result
 
 
 def call_of(line):
-    """The name and the arguments of the call that a line asks for, as the logbook's method takes them."""
+    """The name and the arguments of the call that a line asks for, as the logbook's method takes them; before those of
+    one that takes a list `metered`."""
+    if line.startswith(METERED):
+        return "metered", *call_of(line.removeprefix(METERED))
     name, *words = line.split(b" ")
     name = name.decode()
     arguments = [read(word) for read, word in zip(READERS[name], words, strict=True)]
@@ -103,14 +130,16 @@ def result_words(name, number, result):
 
 
 def answer(call, line):
-    """The answer to a line; call takes a call's name and arguments and gives number, pools emptied, result and the
-    state's number of requests on the key."""
+    """The answer to a line; call takes a call's name and arguments and gives number, pools emptied, result, for a
+    metered call the quotas left, and the state's number of requests on the key."""
     name, *arguments = call_of(line)
-    number, emptied, result, requests = call(name, *arguments)
+    number, emptied, result, *left, requests = call(name, *arguments)
+    if name == "metered":
+        name = arguments[0]
     words = [b"%d" % number]
     if name not in EMPTIES_NONE:
         words += [b"%d" % emptied, *result_words(name, number, result)]
-    return b" ".join([*words, b"%d" % requests])
+    return b" ".join([*words, *map(as_quotas, left), b"%d" % requests])
 
 
 def answers(call, script):

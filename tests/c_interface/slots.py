@@ -55,11 +55,21 @@ SCARCE_SHUFFLES = {("shuffle", 33), ("shuffle with a reseed", 33)}  # with few t
 
 
 class Book(Logbook):
-    """The logbook, as a script calls it."""
+    """The logbook, as a script calls it, with the list of quotas that is held."""
+
+    list_held = ()
 
     def counted(self, requests):
         self.served[self.reseeds] = requests
         return 0, 0, b""
+
+    def quotas(self, records):
+        self.list_held = records
+        return 0, 0, b""
+
+    def metered(self, name, *arguments):
+        *given, self.list_held = self.with_list(name, self.list_held, *arguments)
+        return *given, self.list_held
 
     def call(self, name, *arguments):
         return *getattr(self, name)(*arguments), self.key_requests()
@@ -254,7 +264,7 @@ class Writer(fuzz.Writer):
 
     def output(self, line):
         answer = script.answer(self.book.call, line)
-        if not line.startswith((b"update", b"write")) or not answer.startswith(b"0 "):
+        if not line.removeprefix(script.METERED).startswith((b"update", b"write")) or not answer.startswith(b"0 "):
             return b""
         return answer.split(b" ")[2]
 
@@ -313,14 +323,30 @@ class Carried:
 
     def __init__(self, start):
         self.state = station.FRESH._replace(key=start.key, count=start.count)
+        self.list_held = ()
 
-    def call(self, name, *arguments):
-        if name == "counted":
-            self.state = self.state._replace(key_requests=arguments[0])
-            return 0, 0, b"", arguments[0]
+    def counted(self, requests):
+        self.state = self.state._replace(key_requests=requests)
+        return 0, 0, b""
+
+    def quotas(self, records):
+        self.list_held = records
+        return 0, 0, b""
+
+    def metered(self, name, *arguments):
+        outcome, self.list_held = station.metered(getattr(station, name), self.state, self.list_held, *arguments)
+        self.state = outcome.next
+        return *outcome[:3], self.list_held
+
+    def plain(self, name, *arguments):
         outcome = getattr(station, name)(self.state, *arguments)
         self.state = outcome.next
-        return *outcome[:3], outcome.next.key_requests
+        return outcome[:3]
+
+    def call(self, name, *arguments):
+        others = {"counted": self.counted, "quotas": self.quotas, "metered": self.metered}
+        given = others[name](*arguments) if name in others else self.plain(name, *arguments)
+        return *given, self.state.key_requests
 
     def station(self):
         s = self.state
@@ -330,12 +356,12 @@ class Carried:
 
 def with_tries(call, tries):
     """The calls, with so many tries for each draw of a shuffle."""
-    return lambda name, *arguments: call(name, *arguments, *([tries] if name == "shuffle" else []))
+    return lambda name, *rest: call(name, *rest, *([tries] if "shuffle" in (name, *rest[:1]) else []))
 
 
-def both(lines, tries, start=generator.FRESH):
-    """The answers of either program, which are the same, as are the states left."""
-    book, carried = Book(), Carried(start)
+def both(lines, tries, start=generator.FRESH, kind=Book):
+    """The answers of either program, which are the same, as are the states left; kind is the logbook's class."""
+    book, carried = kind(), Carried(start)
     book.generator = start
     answers = script.answers(with_tries(book.call, tries), lines)
     compare(lines, answers, script.answers(with_tries(carried.call, tries), lines))

@@ -5,8 +5,9 @@
 
 PROGRAM is tests/c_interface/states.c linked with the library, which says how a line is laid out. States and arguments
 are biased to the boundaries of every number. Prints how often each number occurred, what became of the requests on the
-key, and what blank seeds met. Exits 1 where an answer differs, with the line that shows it, or where a number, a clause
-of 21, a way of counting requests or of meeting a blank seed never occurred. The same seed gives the same calls."""
+key, and what blank seeds and lists of quotas met. Exits 1 where an answer differs, with the line that shows it, or
+where a number, a clause of 21, a way of counting requests or of meeting a blank seed or a list never occurred. The same
+seed gives the same calls; the chosen ones are all made, however long they take."""
 import argparse
 import random
 import subprocess
@@ -23,26 +24,29 @@ import station
 from frames import blank_page, nearly_blank
 from generator import MAX_COUNT, MAX_REQUEST, block_count
 from sha256 import INITIAL
-from station import EMPTY, FRESH, MAX_KEY_REQUESTS, MAX_POOL, POOLS, SEED_SIZE, Pool, State
+from station import EMPTY, FRESH, INPUT_NUMBERS, MAX_KEY_REQUESTS, MAX_POOL, MAX_RECORDS, POOLS, SEED_SIZE, Pool, State
 
 KINDS = ("event", "request", "update", "write", "draw", "shuffle")
 NUMBERS = {
-    "event": (0, 11, 12, 13, 21, 22),
-    "request": (0, 14, 21, 23, 24),
-    "update": (0, 15, 36, 21, 24),
-    "write": (0, 15, 21, 23, 24),
-    "draw": (0, 21, 23, 24, 31, 32, 33),
-    "shuffle": (0, 21, 23, 24, 31),
+    "event": (0, 11, 12, 13, 37, 38, 39, 21, 22),
+    "request": (0, 14, 37, 21, 23, 24),
+    "update": (0, 15, 36, 37, 21, 24),
+    "write": (0, 15, 37, 21, 23, 24),
+    "draw": (0, 31, 32, 37, 21, 23, 24, 33),
+    "shuffle": (0, 31, 37, 21, 23, 24),
 }
 KEY_REQUESTS = (0, 1, MAX_KEY_REQUESTS - 2, MAX_KEY_REQUESTS - 1, MAX_KEY_REQUESTS)
 # Pool lengths next above the limit, about the limit of before 02 (v), and such that 64 more wrap.
 TOO_LONG = (MAX_POOL + 1, MAX_POOL + 2, 2**61 - 1, 2**61, 2**61 + 1, 2**64 - 64, 2**64 - 1)
 OLD_EMPTY = tuple(INITIAL)  # the empty pool's running hash before 02 (v)
+WITH_QUOTAS = 16  # on top of a call's byte
+LARGEST = 2**32 - 1
 
 
 @dataclass
 class Case:
-    """A call. buffer is the event's data, or what the lent buffer holds; numbers is the lent list."""
+    """A call. buffer is the event's data, or what the lent buffer holds; numbers is the lent list; quotas are the
+    records of a call that takes them."""
 
     kind: str
     state: State
@@ -53,6 +57,7 @@ class Case:
     n: int = 1
     tries: int = 1
     numbers: tuple = ()
+    quotas: tuple | None = None
 
     def change(self, **fields):
         self.state = self.state._replace(**fields)
@@ -81,8 +86,22 @@ class Case:
             return self.clock, self.n, self.tries
         return self.clock, self.numbers if self.kind == "shuffle" else self.buffer
 
+    def call(self):
+        return getattr(station, self.kind)
+
+    def plain(self):
+        """What the call gives without quotas."""
+        return self.call()(self.state, *self.arguments())
+
     def expected(self):
-        return getattr(station, self.kind)(self.state, *self.arguments())
+        """The outcome and the quotas left."""
+        if self.quotas is None:
+            return self.plain(), None
+        return station.metered(*self.with_quotas())
+
+    def with_quotas(self):
+        """The arguments of a call with quotas, as the station takes them."""
+        return self.call(), self.state, self.quotas, *self.arguments()
 
 
 # ---- lines
@@ -102,6 +121,10 @@ def list_hex(numbers):
     return "".join(f"{number:04x}" for number in numbers)
 
 
+def quotas_hex(records):
+    return "".join(f"{number:08x}" for record in records for number in record)
+
+
 def arguments_hex(case):
     if case.kind == "event":
         return f"{case.source:08x}{case.pool:08x}{case.buffer.hex()}"
@@ -117,11 +140,16 @@ def result_hex(kind, result):
 
 
 def question(case):
-    return f"{KINDS.index(case.kind) + 1:02x}{state_hex(case.state)}{arguments_hex(case)}"
+    kind, quotas = KINDS.index(case.kind) + 1, ""
+    if case.quotas is not None:
+        kind, quotas = kind + WITH_QUOTAS, f"{len(case.quotas):04x}{quotas_hex(case.quotas)}"
+    return f"{kind:02x}{state_hex(case.state)}{quotas}{arguments_hex(case)}"
 
 
-def answer(kind, outcome):
-    return f"{outcome.number} {outcome.emptied} {result_hex(kind, outcome.buffer)} {state_hex(outcome.next)}"
+def answer(kind, outcome, left):
+    words = [f"{outcome.number} {outcome.emptied} {result_hex(kind, outcome.buffer)}"]
+    words += [] if left is None else [quotas_hex(left)]
+    return " ".join([*words, state_hex(outcome.next)])
 
 
 # ---- well-formed states and arguments that are taken, unless a pool has no room or the counter is spent
@@ -325,7 +353,7 @@ def counter_at_end(r, case):
 
 
 def spent(r, case):
-    case.change(count=MAX_COUNT - case.growth() + 1)
+    case.change(count=min(MAX_COUNT - case.growth() + 1, MAX_COUNT))
 
 
 def nearly_stopped(r, case):
@@ -335,6 +363,97 @@ def nearly_stopped(r, case):
 
 def as_it_is(r, case):
     pass
+
+
+def no_room(r, case):
+    case.set_pool(case.pool, pool_of(r, MAX_POOL - 3 - len(case.buffer) + r.choice((1, 2))))
+
+
+def not_due(r, case):
+    case.set_pool(0, pool_of(r, 63))
+
+
+def never_seeded(r, case):
+    unseeded(r, case)
+    not_due(r, case)
+
+
+def some_numbers(r, case):
+    """A shuffle of fewer makes no request."""
+    if len(case.numbers) < 2:
+        case.numbers = tuple(r.sample(range(2**16), 2))
+
+
+def no_numbers(r, case):
+    case.numbers = case.numbers[:1]
+
+
+# ---- quotas: each gives a list to a case, which may have been twisted before
+
+
+def any_record(r, source):
+    allowance = r.choice((0, 3, 35, 100, LARGEST, r.getrandbits(32)))
+    return source, allowance, r.choice((0, allowance, r.randrange(allowance + 1)))
+
+
+def good_quotas(r, case, room=None, most=MAX_RECORDS):
+    """A well-formed list in which the event's source has room for it, or so much, and is at any place."""
+    size = r.choice((1, 2, 3, most, r.randrange(1, most + 1)))
+    sources = r.sample([source for source in (*range(300), 65535, 65536, LARGEST) if source != case.source], size - 1)
+    records = [any_record(r, source) for source in sources]
+    room = 3 + len(case.buffer) + r.choice((0, 1, 40)) if room is None else room
+    spent = r.choice((0, LARGEST - room, r.randrange(2**32 - room)))
+    records.insert(r.choice((0, size - 1, r.randrange(size))), (case.source, spent + room, spent))
+    case.quotas = tuple(records)
+
+
+def just_enough(r, case):
+    good_quotas(r, case, 3 + len(case.buffer))
+
+
+def too_little(r, case):
+    good_quotas(r, case, r.choice((0, 2 + len(case.buffer))))
+
+
+def unlisted(r, case):
+    good_quotas(r, case)
+    case.quotas = tuple(record for record in case.quotas if record[0] != case.source)
+
+
+def too_many(r, case):
+    good_quotas(r, case)
+    known = {source for source, _, _ in case.quotas}
+    more = [any_record(r, source) for source in range(1000, 1200) if source not in known]
+    case.quotas = (*case.quotas, *more)[: MAX_RECORDS + r.choice((1, 1, 2, 50))]
+
+
+def repeated_source(r, case):
+    good_quotas(r, case, most=MAX_RECORDS - 1)
+    place = r.choice((0, -1, r.randrange(len(case.quotas))))
+    again = any_record(r, case.quotas[place][0])
+    where = r.choice((0, len(case.quotas), r.randrange(len(case.quotas) + 1)))
+    case.quotas = (*case.quotas[:where], again, *case.quotas[where:])
+
+
+def overspent(r, case):
+    good_quotas(r, case)
+    place = r.choice((0, len(case.quotas) - 1, r.randrange(len(case.quotas))))
+    allowance = r.choice((0, 5, LARGEST - 1, r.randrange(LARGEST)))
+    bad = case.quotas[place][0], allowance, r.choice((allowance + 1, LARGEST))
+    case.quotas = (*case.quotas[:place], bad, *case.quotas[place + 1 :])
+
+
+BAD_QUOTAS = [too_many, repeated_source, overspent]
+QUOTAS = {kind: [good_quotas, *BAD_QUOTAS] for kind in KINDS}
+QUOTAS["event"] = [good_quotas, just_enough, too_little, unlisted, *BAD_QUOTAS]
+INPUTS = {
+    "event": [bad_source, bad_pool, bad_data],
+    "request": [bad_request],
+    "update": [bad_seed, blank_seed],
+    "write": [bad_seed],
+    "draw": [bad_below, bad_tries],
+    "shuffle": [long_list, repeat_in_list],
+}
 
 
 POOL_CLAUSES = [pool_too_long, dirty_tail, stray_chain]
@@ -414,12 +533,35 @@ def blank_cases(r):
     yield from (Case("update", seeded, buffer=page) for page in pages)
 
 
+def twisted(r, kind, *twists):
+    case = any_case(r, kind)
+    for twist in twists:
+        twist(r, case)
+    return case
+
+
+def quota_cases(r):
+    """Lists of all kinds with what the input turns back, and on states of all kinds; then draws of which about every
+    other one gives 33, and shuffles that make no request."""
+    for kind in KINDS:
+        states = [as_it_is, never_seeded, not_due, much_used, no_room if kind == "event" else spent, *MALFORMED]
+        for twist, quotas in 2 * [*product(INPUTS[kind] + states, QUOTAS[kind])]:
+            yield twisted(r, kind, some_numbers, twist, quotas)
+    for state in 10 * [not_due, much_used]:
+        case = twisted(r, "draw", state, good_quotas)
+        case.n, case.tries = 2**31 + 1, 1
+        yield case
+    for state, quotas in product((as_it_is, never_seeded, much_used, *MALFORMED), QUOTAS["shuffle"]):
+        yield twisted(r, "shuffle", no_numbers, state, quotas)
+
+
 def fixed_cases(r):
     for kind in KINDS:
         yield Case(kind, FRESH, buffer=buffer_for(r, kind))
     yield from counted_cases(r)
     yield from pool_cases(r)
     yield from blank_cases(r)
+    yield from quota_cases(r)
     for largest in largest_cases(r):
         yield largest
         for beyond in (0, 1):
@@ -427,16 +569,18 @@ def fixed_cases(r):
             yield largest
 
 
-def cases(r):
-    """Without end: each twist of each call in turn, every fourth with another twist on top."""
+def cases(r, end):
+    """The chosen ones, and up to the end: each twist of each call in turn, every fourth with another twist on top, and
+    every third with a list of quotas."""
     yield from fixed_cases(r)
-    while True:
+    while time.monotonic() < end:
         for kind in KINDS:
             for twist in TWISTS[kind]:
-                case = any_case(r, kind)
-                twist(r, case)
+                case = twisted(r, kind, twist)
                 if r.random() < 0.25:
                     r.choice(TWISTS[kind])(r, case)
+                if r.random() < 0.33:
+                    r.choice(QUOTAS[kind])(r, case)
                 yield case
 
 
@@ -454,7 +598,7 @@ def way_counted(outcome):
 
 BLANK = (
     *("15 before 36", "36 before 21", "36 before 24", "36 alone", "36, a reseed due", "36, unseeded", "nearly blank 0"),
-    *(f"write over equal bytes {n}" for n in NUMBERS["write"]),
+    *(f"write over equal bytes {n}" for n in NUMBERS["write"] if n != 37),
 )
 
 
@@ -479,6 +623,37 @@ def ways_of_blank(case, outcome):
         yield "36, a reseed due"
 
 
+QUOTA_WAYS = (
+    *(f"{number} before {later}" for number in (11, 12, 13) for later in (37, 38, 39)),
+    *(f"{number} before 37" for number in (14, 15, 36, 31, 32)),
+    *(f"{number} before {later}" for number in (37, 38, 39) for later in (21, 22)),
+    *("37 before 23", "37 before 24", "event 22, kept", "draw 33, kept", "draw 33, cleared"),
+    *(f"{kind} 21, kept" for kind in KINDS),
+    *(f"{kind} {number}, kept" for kind in ("request", "write", "draw", "shuffle") for number in (23, 24)),
+    *(f"{kind} 0, cleared" for kind in KINDS[1:]),
+    *("update 24, kept", "event 0, charged", "event 0, allowance reached", "37 of a shuffle that makes no request"),
+)
+
+
+def ways_of_quotas(case, outcome, left):
+    """What a list met: the number that would have come next, and what became of the list."""
+    if outcome.number in INPUT_NUMBERS:
+        later = station.records_refusal(case.quotas, case.call(), case.arguments())
+        yield f"{outcome.number} before {later}"
+        return
+    if outcome.number in (37, 38, 39):
+        yield f"{outcome.number} before {case.plain().number}"
+        if case.kind == "shuffle" and len(case.numbers) < 2:
+            yield "37 of a shuffle that makes no request"
+        return
+    if outcome.emptied and left == case.quotas:
+        return  # nothing was spent
+    became = "cleared" if outcome.emptied else "charged" if left != case.quotas else "kept"
+    yield f"{case.kind} {outcome.number}, {became}"
+    if became == "charged" and any(record not in case.quotas and record[1] == record[2] for record in left):
+        yield f"{case.kind} 0, allowance reached"
+
+
 class Tally:
     def __init__(self):
         self.numbers = {kind: Counter() for kind in KINDS}
@@ -486,10 +661,13 @@ class Tally:
         self.emptied = Counter()
         self.counted = Counter({(kind, way): 0 for kind in KINDS[1:] for way in WAYS})
         self.blank = Counter({way: 0 for way in BLANK})
+        self.quotas = Counter({way: 0 for way in QUOTA_WAYS})
 
-    def note(self, case, outcome):
+    def note(self, case, outcome, left):
         self.numbers[case.kind][outcome.number] += 1
         self.blank.update(ways_of_blank(case, outcome))
+        if case.quotas is not None:
+            self.quotas.update(ways_of_quotas(case, outcome, left))
         if case.kind != "event" and outcome.number in (0, 33):
             self.emptied[outcome.emptied] += 1
             self.counted[case.kind, way_counted(outcome)] += 1
@@ -505,7 +683,7 @@ class Tally:
             yield from (f"{kind} {n}" for n in NUMBERS[kind] if not self.numbers[kind][n])
         yield from (f"21 by its clause '{name}' alone" for name, n in self.clauses.items() if n == 0)
         yield from (f"{kind}, requests on the key {way}" for (kind, way), n in self.counted.items() if n == 0)
-        yield from (way for way, n in self.blank.items() if n == 0)
+        yield from (way for way, n in {**self.blank, **self.quotas}.items() if n == 0)
 
     def show(self):
         for kind in KINDS:
@@ -516,6 +694,7 @@ class Tally:
         for way in WAYS:
             print(f"requests on the key {way}:", "  ".join(f"{kind} {self.counted[kind, way]}" for kind in KINDS[1:]))
         print("blank seeds:", ", ".join(f"{way}: {n}" for way, n in self.blank.items()))
+        print("lists of quotas:", ", ".join(f"{way}: {self.quotas[way]}" for way in QUOTA_WAYS))
 
 
 def ask(program, line):
@@ -526,16 +705,14 @@ def ask(program, line):
 
 def compare(program, r, seconds, tally):
     """The first difference, or nothing."""
-    end = time.monotonic() + seconds
-    for case in cases(r):
-        line, outcome = question(case), case.expected()
+    for case in cases(r, time.monotonic() + seconds):
+        line, (outcome, left) = question(case), case.expected()
         found = ask(program, line)
-        expected = answer(case.kind, outcome)
+        expected = answer(case.kind, outcome, left)
         if found != expected:
             return f"line:     {line}\nexpected: {expected}\nfound:    {found}"
-        tally.note(case, outcome)
-        if time.monotonic() > end:
-            return None
+        tally.note(case, outcome, left)
+    return None
 
 
 def main():

@@ -3,7 +3,9 @@ bin/logbook (editions.py) runs it.
 
 It holds no pools. It notes each accepted event with its r, the pool reseeds made before it, and works out from r which
 reseed the event is booked for; what a pool holds or gives follows from the bookings. Nothing is taken from the station.
-Draws and shuffles (02, i) are calls of it too, though no frame makes one; tests/c_interface/slots.py runs them.
+Draws and shuffles (02, i) are calls of it too, though no frame makes one; tests/c_interface/slots.py runs them. So are
+calls that take a list of quotas (02, x), which tests/c_interface/quotas.py runs. It holds no list: each such call takes
+one, and gives the one left.
 SHA-256 is Python's hashlib, AES-256 is tests/independent/aes256.py."""
 from collections import Counter, defaultdict, namedtuple
 
@@ -20,9 +22,11 @@ MAX_LIST = 256
 TRY_SIZE = 4
 TRY_BLOCKS = 3  # of a request of 4 bytes
 MOST_TOLD = 65535  # where the state's number of requests on the key stops
+MAX_QUOTAS = 64  # records of a list
 
 Event = namedtuple("Event", "source pool data r")
 Pool = namedtuple("Pool", "chain tail length")
+Quota = namedtuple("Quota", "source allowance spent")
 Station = namedtuple("Station", "key counter mark reseed_number reseeded key_requests pools")
 
 
@@ -45,6 +49,11 @@ def running(front, content):
     for i in range(0, len(hashed), 64):
         chain = compress(chain, hashed[i : i + 64])
     return Pool(tuple(chain), content[whole:].ljust(64, b"\0"), len(content))
+
+
+def as_lent(name, arguments):
+    """What a refused call gives in its result's place."""
+    return {"event": b"", "draw": 0}.get(name, arguments[1])
 
 
 class Logbook:
@@ -114,18 +123,45 @@ class Logbook:
         timer = self.mark, self.reseeds % 2**32, self.reseeds > 0
         return Station(self.generator.key, counter, *timer, self.key_requests(), pools)
 
-    # ---- refusals: input numbers before state numbers, the lower first; 21 never arises
+    # ---- refusals by the input, the first that applies
 
-    def event_refusal(self, source, pool, data):
+    def event_input(self, source, pool, data):
         if source >= 256**self.source_bytes:
             return 11
         if pool >= POOLS:
             return 12
-        if not 1 <= len(data) <= 32:
-            return 13
-        if self.length(pool) + self.source_bytes + 1 + len(data) > MAX_MESSAGE - len(self.front):
-            return 22
-        return 0
+        return 0 if 1 <= len(data) <= 32 else 13
+
+    def request_input(self, clock, buffer):
+        return 14 if len(buffer) > MAX_REQUEST else 0
+
+    def update_input(self, clock, seed):
+        if len(seed) != SEED_SIZE:
+            return 15
+        return 36 if blank(seed) and not self.takes_blank else 0
+
+    def write_input(self, clock, seed):
+        return 15 if len(seed) != SEED_SIZE else 0
+
+    def draw_input(self, clock, n, tries):
+        if not 1 <= n <= MAX_BELOW:
+            return 31
+        return 0 if 1 <= tries <= MAX_TRIES else 32
+
+    def shuffle_input(self, clock, numbers, tries=MAX_TRIES):
+        return 31 if len(numbers) > MAX_LIST or len(set(numbers)) < len(numbers) else 0
+
+    def input_refusal(self, name, *arguments):
+        return getattr(self, f"{name}_input")(*arguments)
+
+    # ---- refusals: input numbers before state numbers, the lower first; 21 never arises
+
+    def event_refusal(self, source, pool, data):
+        return self.event_input(source, pool, data) or self.room_refusal(pool, data)
+
+    def room_refusal(self, pool, data):
+        gain = self.source_bytes + 1 + len(data)
+        return 22 if self.length(pool) + gain > MAX_MESSAGE - len(self.front) else 0
 
     def spent(self, clock, blocks):
         """24: the counter would run out."""
@@ -137,34 +173,21 @@ class Logbook:
         return 24 if self.spent(clock, blocks) else 0
 
     def request_refusal(self, clock, buffer):
-        if len(buffer) > MAX_REQUEST:
-            return 14
-        return self.output_refusal(clock, block_count(len(buffer)) + 2)
+        return self.request_input(clock, buffer) or self.output_refusal(clock, block_count(len(buffer)) + 2)
 
     def update_refusal(self, clock, seed):
-        if len(seed) != SEED_SIZE:
-            return 15
-        if blank(seed) and not self.takes_blank:
-            return 36
-        return 24 if self.spent(clock, 7) else 0
+        return self.update_input(clock, seed) or (24 if self.spent(clock, 7) else 0)
 
     def write_refusal(self, clock, seed):
-        if len(seed) != SEED_SIZE:
-            return 15
-        return self.output_refusal(clock, block_count(SEED_SIZE) + 2)
+        return self.write_input(clock, seed) or self.output_refusal(clock, block_count(SEED_SIZE) + 2)
 
     def draw_refusal(self, clock, n, tries):
-        if not 1 <= n <= MAX_BELOW:
-            return 31
-        if not 1 <= tries <= MAX_TRIES:
-            return 32
-        return self.output_refusal(clock, TRY_BLOCKS * tries)
+        return self.draw_input(clock, n, tries) or self.output_refusal(clock, TRY_BLOCKS * tries)
 
     def shuffle_refusal(self, clock, numbers, tries):
-        if len(numbers) > MAX_LIST or len(set(numbers)) < len(numbers):
-            return 31
-        if len(numbers) < 2:
-            return 0  # it makes no request
+        bad = self.shuffle_input(clock, numbers)
+        if bad or len(numbers) < 2:
+            return bad  # a list of 0 or 1 makes no request
         return self.output_refusal(clock, TRY_BLOCKS * tries * (len(numbers) - 1))
 
     # ---- the calls
@@ -200,6 +223,48 @@ class Logbook:
         """Of a draw with 64 tries nobody has seen 33; fewer serve to see what a shuffle does then."""
         refusal = self.shuffle_refusal(clock, numbers, tries)
         return (refusal, 0, numbers) if refusal else self.shuffled(clock, numbers, tries)
+
+    # ---- calls that take a list of quotas
+
+    def with_list(self, name, quotas, *arguments):
+        """What the call gives, and the list left. The list's numbers stand between those of the input and of the state,
+        which the call looks at by itself."""
+        refusal = self.input_refusal(name, *arguments) or self.list_refusal(quotas, name, *arguments)
+        given = (refusal, 0, as_lent(name, arguments)) if refusal else self.plain(name, *arguments)
+        return *given, self.list_left(quotas, *given[:2], name, *arguments)
+
+    def plain(self, name, *arguments):
+        """The call without a list."""
+        return getattr(self, name)(*arguments)
+
+    def list_refusal(self, quotas, name, *arguments):
+        if self.bad_list(quotas):
+            return 37
+        return self.allowance_refusal(quotas, *arguments) if name == "event" else 0
+
+    def bad_list(self, quotas):
+        one_each = {quota.source: quota for quota in quotas}
+        return len(quotas) > MAX_QUOTAS or len(one_each) < len(quotas) or any(q.spent > q.allowance for q in quotas)
+
+    def allowance_refusal(self, quotas, source, pool, data):
+        rooms = {quota.source: quota.allowance - quota.spent for quota in quotas}
+        if source not in rooms:
+            return 38
+        return 39 if self.cost(source, pool, data) > rooms[source] else 0
+
+    def cost(self, source, pool, data):
+        """An event spends as many bytes as its pool gains."""
+        return len(self.gained(Event(source, pool, data, self.reseeds)))
+
+    def list_left(self, quotas, number, emptied, name, *arguments):
+        """A pool reseed, which always empties pool 0, clears the list, 33 or not; only accepted events spend."""
+        if emptied:
+            return tuple(quota._replace(spent=0) for quota in quotas)
+        if number or name != "event":
+            return quotas
+        spent = {quota.source: quota.spent for quota in quotas}
+        spent[arguments[0]] += self.cost(*arguments)
+        return tuple(quota._replace(spent=spent[quota.source]) for quota in quotas)
 
     # ---- what an accepted call does
 

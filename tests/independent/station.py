@@ -4,7 +4,7 @@ state whatever.
 A call gives its number (0 or the refusal), the pools emptied, what the buffer, the event's data or the list then hold,
 for a draw its value, and the next state. A pool is its running hash, tail and length, so that a state whose earlier
 bytes nobody knows will do. It goes on from the block of zeros that D has in front (02, v), which its length does not
-count."""
+count. A call may also take records of quotas (02, x), and then gives the records left as well."""
 import hashlib
 import struct
 from collections import namedtuple
@@ -21,6 +21,8 @@ SEED_SIZE = 64
 MAX_POOL = 2**61 - 65
 DRAW_TRIES = 64
 MAX_KEY_REQUESTS = 65535
+MAX_RECORDS = 64
+INPUT_NUMBERS = (11, 12, 13, 14, 15, 31, 32, 36)  # those that stand before a list's
 EMPTY = Pool(tuple(compress(INITIAL, bytes(64))), bytes(64), 0)
 FRESH = State(bytes(32), 0, (EMPTY,) * POOLS, 0, 0, False, 0)
 
@@ -229,3 +231,63 @@ def shuffle(state, clock, numbers, tries=DRAW_TRIES):
             return Outcome(33, emptied, numbers, state)
         left = exchanged(left, place, picked.buffer)
     return Outcome(0, emptied, left, state)
+
+
+# ---- quotas: records of source, allowance and bytes spent, walked from the first on
+
+
+def place_of(records, wanted):
+    """Where the first record of a source stands; None where it has none."""
+    for place, (source, _, _) in enumerate(records):
+        if source == wanted:
+            return place
+    return None
+
+
+def well_formed(records):
+    for place, (source, allowance, spent) in enumerate(records):
+        if place == MAX_RECORDS or place_of(records, source) < place or allowance < spent:
+            return False
+    return True
+
+
+def records_refusal(records, call, arguments):
+    """37, 38 or 39, of a call that its input does not turn back."""
+    if not well_formed(records):
+        return 37
+    if call is not event:
+        return 0
+    source, _, data = arguments
+    place = place_of(records, source)
+    if place is None:
+        return 38
+    _, allowance, spent = records[place]
+    return 39 if spent + 3 + len(data) > allowance else 0
+
+
+def charged(records, source, size):
+    place = place_of(records, source)
+    _, allowance, spent = records[place]
+    return (*records[:place], (source, allowance, spent + 3 + size), *records[place + 1 :])
+
+
+def cleared(records):
+    return tuple((source, allowance, 0) for source, allowance, _ in records)
+
+
+def metered(call, state, records, *arguments):
+    """The outcome of a call of this module with records, and the records left. A state is a value, so the call without
+    them is made first: what it gives stands where its input turned it back, or where the records have nothing against
+    it."""
+    outcome = call(state, *arguments)
+    if outcome.number in INPUT_NUMBERS:
+        return outcome, records
+    if refusal := records_refusal(records, call, arguments):
+        lent = arguments[2] if call is event else 0 if call is draw else arguments[1]
+        return Outcome(refusal, 0, lent, state), records
+    if outcome.emptied > 0:
+        return outcome, cleared(records)
+    if call is event and outcome.number == 0:
+        source, _, data = arguments
+        return outcome, charged(records, source, len(data))
+    return outcome, records
