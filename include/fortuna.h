@@ -12,7 +12,7 @@
    neither edition.
 
    The caller sees to it that a pointer points to as many bytes, samples, or numbers of a list, as its length says and
-   is not null, not even at length 0, and that a buffer overlaps nothing else that the same call is lent. Then every
+   is not null, not even at length 0, and that a buffer or a list overlaps nothing else that the same call is lent. Then every
    call returns, and none allocates, keeps a pointer, or reads or changes anything but what it is lent.
 
    One call at a time on a state. A call reads the whole state, works, and stores the whole next state, and nothing in
@@ -40,13 +40,13 @@
        fortuna_update                  46,080
        fortuna_write                   43,008
        fortuna_random_below            53,248
-       fortuna_shuffle                 53,248
-       fortuna_metered_event           16,384
-       fortuna_metered_request         50,176
-       fortuna_metered_update          53,248
-       fortuna_metered_write           50,176
-       fortuna_metered_random_below    60,416
-       fortuna_metered_shuffle         60,416
+       fortuna_shuffle                 61,440
+       fortuna_metered_event           13,312
+       fortuna_metered_request         43,008
+       fortuna_metered_update          50,176
+       fortuna_metered_write           43,008
+       fortuna_metered_random_below    53,248
+       fortuna_metered_shuffle         64,512
        fortuna_log                    270,336
        fortuna_health_new                 256
        fortuna_health_test                256

@@ -15,7 +15,7 @@ from pathlib import Path
 
 ROOT = Path(__file__).resolve().parents[2]
 STORED = ROOT / "tests/gate/opened.txt"
-TABLES = {"Boundaries.antt", "Computing.antt", "Examples.antt", "Readings.antt"}
+TABLES = {"Boundaries.antt", "Computing.antt", "Examples.antt", "QuotaRows.antt", "Readings.antt"}
 IMPORT = re.compile(r"^use Rattle·(\w+)\.(?:specs|proofs)\.[\w.-]+?(?:\.\{([^}]*)\}| as (\S+))$", re.M)
 OPENED = re.compile(r"^\s*unfolding (.*)$|\bunfold ((?:\S+ )+?)in\b", re.M)
 
