@@ -17,7 +17,6 @@ use Rattle.pools.specs.declared.Fortuna.{Fortuna}
 use Rattle.pools.specs.declared.Gain.{Gain}
 use Rattle.pools.specs.declared.Outcome as Method
 use Rattle.pools.specs.declared.answer.Answer.{Answer}
-use Rattle.pools.specs.declared.answer.Answer.the-variants.{QuotasMalformed, SourceNotListed, OverAllowance}
 use Rattle.pools.specs.Events.{maxSource, poolCount, maxData, gain}
 use Rattle.pools.specs.Pool.{full}
 use Rattle.pools.specs.State.{poolAt, malformed}
@@ -25,7 +24,7 @@ use Rattle.pools.specs.Refusals.{andThen, eventInput, eventState}
 use Rattle.pools.specs.Effects.{withPool, unchanged}
 use Rattle.pools.specs.Calls.{Call, event, inputBuffer, inputNumber, stateNumber, callNumber, callFound, callValue, callEffect, Outcome, outcome, step}
 use Rattle.pools.specs.Promises.{number, Gains}
-use Rattle.pools.proofs.Chains.{then-nothing, both-passed, call-chains}
+use Rattle.pools.proofs.Chains.{then-nothing, call-chains}
 use Rattle.pools.proofs.EventCalls.{pool-kept, gain-place}
 use Rattle.pools.proofs.Outcomes.{outcome-refused}
 use Rattle.quotas.specs.declared.Quota.{Quota}

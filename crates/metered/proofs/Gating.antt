@@ -1,6 +1,6 @@
 -- A call that is no event, behind the check of its list.
 -- Assumes nothing.
-use mathlib.Core.Path.{_≡_, refl, sym, ap, _∙_}
+use mathlib.Core.Path.{_≡_, refl, ap, _∙_}
 use mathlib.Core.Bool.{Bool, true, false, cond}
 use mathlib.Core.Logic.{_≢_}
 use mathlib.Core.List.{List}
@@ -14,9 +14,9 @@ use Rattle.pools.specs.declared.Outcome as Method
 use Rattle.pools.specs.declared.answer.Answer.{Answer}
 use Rattle.pools.specs.Refusals.{andThen}
 use Rattle.pools.specs.Effects.{unchanged}
-use Rattle.pools.specs.Calls.{Call, event, request, update, write, draw, shuffle, inputBuffer, inputNumber, stateNumber, callFound, callValue, callEffect, Outcome, step}
+use Rattle.pools.specs.Calls.{Call, request, update, write, draw, shuffle, inputBuffer, inputNumber, stateNumber, callFound, callValue, callEffect, Outcome, step}
 use Rattle.pools.specs.Promises.{number, GivesBytes, GivesValue}
-use Rattle.pools.proofs.Chains.{then-second, then-holds, both-passed, call-chains}
+use Rattle.pools.proofs.Chains.{then-second, both-passed, call-chains}
 use Rattle.pools.proofs.Outcomes.{outcome-refused}
 use Rattle.quotas.specs.declared.Quota.{Quota}
 use Rattle.quotas.specs.Records.{malformedQuotas, quotasNumber}

@@ -8,7 +8,6 @@ use Prim.Native.Nat.{ℕ, zero, suc}
 use native.Mathlib.Omega.{arith}
 use lib.Dec.{eqb, eqb·suc-zero, lit≤}
 use lib.ListN.{length, getD, replicate, getD-replicate}
-use borrow.Author.Tests.{eqb-true}
 use Rattle.laws.specs.Lists.{countOf}
 use Rattle.laws.specs.Refusals.{refuse}
 use Rattle.laws.proofs.Cases.{by-test}

@@ -1,13 +1,13 @@
 -- What a call leaves of its list.
 -- Assumes nothing.
-use mathlib.Core.Path.{_≡_, refl, sym, ap, _∙_}
+use mathlib.Core.Path.{_≡_, refl, ap, _∙_}
 use mathlib.Core.Logic.{_≢_}
 use mathlib.Core.Bool.{false, _||_}
 use mathlib.Core.List.{List, [], _∷_, map}
 use Prim.Native.Nat.{ℕ, zero, suc, _+_, _<_}
 use native.Mathlib.Nat.{not-suc-le-zero, le-of-suc-le-suc}
 use lib.Dec.{eqb, ltb}
-use lib.ListN.{length, getD, length-map}
+use lib.ListN.{length, length-map}
 use borrow.Author.Tests.{lt-ltb, ne-eqb}
 use Rattle.laws.proofs.Cases.{neither}
 use Rattle.pools.specs.declared.Fortuna.{Fortuna}
@@ -20,7 +20,7 @@ use Rattle.quotas.specs.declared.Quota.{Quota}
 use Rattle.quotas.specs.Records.{maxQuotas, repeats, overspent, malformedQuotas, unspent, charged, cleared}
 use Rattle.quotas.specs.Entries.{Quotas, within, Entry, taking, entryNumber, entryStep, chargedFor, quotasLeft}
 use Rattle.quotas.specs.Left.{leftBy, recordAt, LeftLaw}
-use Rattle.quotas.proofs.Lists.{Passes, addedTo, charged-each}
+use Rattle.quotas.proofs.Lists.{addedTo, charged-each}
 use Rattle.quotas.proofs.Runs.{event-allowed}
 
 -- ---- the outcome of a refused call, and of an accepted event

@@ -3,16 +3,16 @@
 use mathlib.Core.Path.{_≡_, refl, sym, ap, ap₂, subst, _∙_}
 use mathlib.Core.Bool.{Bool, true, false, cond, not, _||_, true≢false}
 use mathlib.Core.List.{List, [], _∷_, map}
-use Prim.Native.Nat.{ℕ, zero, suc, _+_, _≤_, _<_}
+use Prim.Native.Nat.{ℕ, suc, _+_, _≤_}
 use native.Mathlib.Nat.{add-zero}
 use native.Mathlib.Omega.{arith}
 use lib.Dec.{eqb, ltb}
-use lib.ListN.{length, getD}
+use lib.ListN.{length}
 use borrow.Author.Tests.{ltb-false, le-ltb, eqb-true, ne-eqb, not-false}
 use Rattle.laws.proofs.Cases.{split, by-test, neither}
 use Rattle.laws.proofs.Refusals.{passed}
 use Rattle.quotas.specs.declared.Quota.{Quota}
-use Rattle.quotas.specs.Records.{noRecord, maxQuotas, placeOf, isListed, quotaOf, repeats, overspent, malformedQuotas, eventQuotasNumber, chargedBy, unspent, charged, cleared}
+use Rattle.quotas.specs.Records.{maxQuotas, placeOf, isListed, quotaOf, repeats, overspent, malformedQuotas, eventQuotasNumber, chargedBy, unspent, charged, cleared}
 
 -- ---- the record of a source, at the head or after it
 

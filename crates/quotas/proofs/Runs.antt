@@ -1,25 +1,25 @@
 -- Runs whose every call takes the list that the last one returned.
 -- Assumes nothing.
-use mathlib.Core.Path.{_≡_, refl, sym, ap, ap₂, subst, _∙_}
-use mathlib.Core.Bool.{Bool, true, false, cond, true≢false}
-use mathlib.Core.Logic.{_⊎_, inl, inr, ⊎-elim}
+use mathlib.Core.Path.{_≡_, refl, sym, ap, subst, _∙_}
+use mathlib.Core.Bool.{true, false, cond, true≢false}
+use mathlib.Core.Logic.{_⊎_, inl, inr}
 use mathlib.Core.List.{List, [], _∷_, _++_}
-use Prim.Native.Nat.{ℕ, zero, suc, _+_, _≤_, zero-le}
+use Prim.Native.Nat.{ℕ, suc, _+_, _≤_}
 use native.Mathlib.Omega.{arith}
-use lib.Dec.{eqb, ltb, eqb·suc-zero}
+use lib.Dec.{eqb, ltb}
 use lib.ListN.{length}
-use borrow.Author.Tests.{eqb-true, eq-eqb, ne-eqb}
+use borrow.Author.Tests.{eqb-true, eq-eqb}
 use Rattle.laws.proofs.Cases.{by-test, split}
 use Rattle.pools.specs.declared.Fortuna.{Fortuna}
 use Rattle.pools.specs.Events.{gain}
 use Rattle.pools.specs.Calls.{Call, event, request, update, write, draw, shuffle, callFound, Outcome, outcome}
 use Rattle.quotas.specs.declared.Quota.{Quota}
-use Rattle.quotas.specs.Records.{quotaOf, isListed, malformedQuotas, eventQuotasNumber, chargedBy, charged, cleared}
+use Rattle.quotas.specs.Records.{quotaOf, eventQuotasNumber, charged}
 use Rattle.quotas.specs.Entries.{Entry, within, taking, listNumber, entryNumber, entryStep, chargedFor, quotasLeft}
 use Rattle.quotas.specs.Runs.{Taken, takenBy, returned, handedOn, bytesOf, acceptedBytes, NoReseed, leftOf, WithinAllowance}
 use Rattle.pools.proofs.Chains.{both-passed}
 use Rattle.quotas.proofs.Entries.{entry-passed}
-use Rattle.quotas.proofs.Lists.{Passes, event-passes, charged-own, charged-other, charged-listed, charged-formed, charged-allowance, cleared-own}
+use Rattle.quotas.proofs.Lists.{Passes, event-passes, charged-own, charged-other, charged-allowance, cleared-own}
 
 -- an accepted event is one that the list lets pass
 step-accepted : (s : Fortuna) (e : Entry) → entryStep s e .number ≡ 0 → entryNumber s e ≡ 0

@@ -13,7 +13,7 @@ use Rattle.pools.specs.Calls.{Call, event, request, update, write, draw, shuffl
 use Rattle.pools.specs.Promises.{callNumbers}
 use Rattle.quotas.specs.declared.Quota.{Quota}
 use Rattle.quotas.specs.Records.{noRecord}
-use Rattle.quotas.specs.Entries.{Quotas, without, within, Entry, taking, entryNumber, entryStep, quotasLeft}
+use Rattle.quotas.specs.Entries.{Quotas, without, within, taking, entryNumber, entryStep, quotasLeft}
 
 -- a call without a list is as before
 abbrev pub AsBefore : Type 0

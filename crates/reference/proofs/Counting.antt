@@ -2,7 +2,7 @@
 -- Assumes nothing.
 use mathlib.Core.Path.{_≡_, refl, sym, ap, ap₂, _∙_}
 use mathlib.Core.Bool.{Bool, true, false, cond, _&&_, true≢false}
-use mathlib.Core.List.{List, [], _∷_, _++_, map}
+use mathlib.Core.List.{List, [], _∷_, map}
 use Prim.Native.Nat.{ℕ, zero, suc, _+_}
 use native.Mathlib.Omega.{arith}
 use lib.Dec.{eqb, eqb·suc-zero}
@@ -20,11 +20,10 @@ use Rattle.pools.specs.Calls.{Call, event, request, update, write, draw, shuffl
 use Rattle.quotas.specs.Entries.{Entry}
 use Rattle.pools.proofs.EachTry.{Kept, kept-tries, kept-shuffled}
 use Rattle.reference.specs.Reference.{Reference, empty, appendEvent, withState, requestedState, referenceReseedIfDue, referenceRequest, referenceTry, referenceEntryNumber, referenceFound, referenceEffect, referenceStep, referenceRun, referenceAfter, dueAt}
-use Rattle.reference.specs.Agreement.{concrete, concreteOutcome}
-use Rattle.reference.specs.Timer.{reseedsAfter}
-use Rattle.reference.specs.Counters.{counterBlocks, isUpdate, seedsIn, Counted}
-use Rattle.reference.proofs.Invariant.{Sound, sound-empty, count-reseed-if-due}
-use Rattle.reference.proofs.Moves.{Moved, request-moves}
+use Rattle.reference.specs.Agreement.{concreteOutcome}
+use Rattle.reference.specs.Counters.{isUpdate, seedsIn, Counted}
+use Rattle.reference.proofs.Invariant.{count-reseed-if-due}
+use Rattle.reference.proofs.Moves.{request-moves}
 use Rattle.reference.proofs.Requests.{seeded}
 use Rattle.reference.proofs.Advances.{reseeds-after}
 use Rattle.reference.proofs.Agreement.{agrees, sound-after}

@@ -11,7 +11,7 @@ use Rattle.pools.specs.Events.{eventBytes}
 use Rattle.pools.specs.Effects.{Effect}
 use Rattle.pools.specs.Calls.{Call, event, inputBuffer, outcome, stateFrom}
 use Rattle.quotas.specs.Entries.{Quotas, Entry, taking}
-use Rattle.reference.specs.Reference.{Accepted, Reference, empty, appendEvent, referenceNumber, referenceEffect, referenceStep, referenceAfter, referenceEntryNumber}
+use Rattle.reference.specs.Reference.{Accepted, Reference, empty, referenceEffect, referenceStep, referenceAfter, referenceEntryNumber}
 use Rattle.reference.specs.Provenance.{NoEvent}
 use Rattle.reference.proofs.Invariant.{events-noted}
 use Rattle.reference.proofs.Advances.{Shape, appended, moved, effect-shape, outcome-done, outcome-keeps}

@@ -16,7 +16,7 @@ use Rattle.pools.specs.State.{poolAt, due}
 use Rattle.pools.specs.Refusals.{andThen}
 use Rattle.pools.specs.Effects.{Effect, unchanged, withPool, withGenerator, withRequest, addEvent, nextReseed, poolReseed, reseedIfDue, emptiedBy, randomData, reseedWithSeed, updateSeed, writeSeed}
 use Rattle.pools.specs.Draws.{trySize, after, leaving, tries, shuffled, tryAt}
-use Rattle.pools.specs.Calls.{Call, event, request, update, write, draw, shuffle, readingOf, inputBuffer, callNumber, callEffect, callFound, effectOf, outcome}
+use Rattle.pools.specs.Calls.{Call, event, request, update, write, draw, shuffle, readingOf, inputBuffer, callEffect, callFound, effectOf, outcome}
 use Rattle.quotas.specs.Entries.{Entry, entryNumber, entryStep}
 use Rattle.quotas.proofs.Entries.{entry-not-33}
 use Rattle.reference.specs.Runs.{stateAfter}

@@ -20,7 +20,7 @@ use Rattle.pools.specs.Effects.{Effect, unchanged, nextReseed, digests}
 use Rattle.pools.specs.Calls.{Call, event, readingOf, inputBuffer, Outcome, effectOf, outcome, stateFrom}
 use Rattle.quotas.specs.Entries.{Entry, entryNumber, entryStep}
 use Rattle.reference.specs.Runs.{stateAfter}
-use Rattle.reference.specs.Reference.{Accepted, Reference, empty, select, pending, consumedAt, contents, poolContents, appendEvent, referenceReseed, referenceNumber, referenceEffect, referenceStep, referenceAfter, referenceEntryNumber}
+use Rattle.reference.specs.Reference.{Accepted, Reference, empty, select, pending, consumedAt, contents, poolContents, appendEvent, referenceReseed, referenceEffect, referenceStep, referenceAfter, referenceEntryNumber}
 use Rattle.reference.specs.Agreement.{concrete, concreteOutcome}
 use Rattle.reference.specs.Timer.{requests}
 use Rattle.reference.specs.Provenance.{Piece, PoolUse, erased, Traced, tracedFresh, dueFor, putsInto, useOf, nextUses, tracedReseed, tracedAccepted, tracedStep, tracedFrom, traced, pieceOf, scheduledUse, scheduledUses}

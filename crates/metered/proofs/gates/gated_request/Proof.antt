@@ -2,7 +2,6 @@
 -- Assumes nothing.
 use borrow.Author.Needs.{needs}
 use Rattle.pools.specs.Calls.{request, inputBuffer, inputNumber}
-use Rattle.pools.specs.Promises.{GivesBytes}
 use Rattle.metered.proofs.Gating.{gate-shut, gate-open}
 use Rattle.metered.proofs.gates.gated_request.Statement.{statement}
 use Rattle.metered.proofs.gates.gated_request.Tie as tie

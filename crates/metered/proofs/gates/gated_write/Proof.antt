@@ -2,7 +2,6 @@
 -- Assumes nothing.
 use borrow.Author.Needs.{needs}
 use Rattle.pools.specs.Calls.{write, inputBuffer, inputNumber}
-use Rattle.pools.specs.Promises.{GivesBytes}
 use Rattle.metered.proofs.Gating.{gate-shut, gate-open}
 use Rattle.metered.proofs.gates.gated_write.Statement.{statement}
 use Rattle.metered.proofs.gates.gated_write.Tie as tie
