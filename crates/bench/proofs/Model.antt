@@ -25,13 +25,16 @@ answers-concrete (some c ∷ calls) [] = refl
 answers-concrete (some c ∷ calls) (o ∷ outcomes) = ap (λ (l : List ℕ). outcomeLine c o ++ l) (answers-concrete calls outcomes)
 
 -- what lines print is what the outcomes of the run of their calls print
-printed-run : (texts : List (List ℕ)) (place : ℕ) (s : Fortuna) → printedFrom s texts ≡ answers (map lineCall texts) (runFrom (λ place. step) place s (made (map lineCall texts)))
+printed-run : (texts : List (List ℕ)) (place : ℕ) (s : Fortuna)
+    → printedFrom s texts ≡ answers (map lineCall texts) (runFrom (λ place. step) place s (made (map lineCall texts)))
 unfolding printedFrom lineOf executed answers made runFrom
 printed-run [] place s = refl
 printed-run (text ∷ texts) place s = go (lineCall text) (printed-run texts)
   where
-    go : (c : Option Call) → ((place : ℕ) (s : Fortuna) → printedFrom s texts ≡ answers (map lineCall texts) (runFrom (λ place. step) place s (made (map lineCall texts))))
-        → executed s c .printed ++ printedFrom (executed s c .next) texts ≡ answers (c ∷ map lineCall texts) (runFrom (λ place. step) place s (made (c ∷ map lineCall texts)))
+    go : (c : Option Call)
+        → ((place : ℕ) (s : Fortuna) → printedFrom s texts ≡ answers (map lineCall texts) (runFrom (λ place. step) place s (made (map lineCall texts))))
+        → executed s c .printed ++ printedFrom (executed s c .next) texts
+        ≡ answers (c ∷ map lineCall texts) (runFrom (λ place. step) place s (made (c ∷ map lineCall texts)))
     go none rest = ap (λ (l : List ℕ). numberLine noFrame ++ l) (rest place s)
     go (some c) rest = ap (λ (l : List ℕ). outcomeLine c (step s c) ++ l) (rest (suc place) (step s c .effect .next))
 

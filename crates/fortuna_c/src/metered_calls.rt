@@ -18,7 +18,8 @@ pub extern "C" fn fortuna_metered_event(
     pool: u32,
     data: &[u8],
 ) -> u32
-    ensures { λ r. ⌜ MeteredLeaves (now (state .entry)) (now (list .entry)) (event source pool (now («data» .entry))) r (now (state .exit)) (now (list .exit)) ⌝ }
+    ensures { λ r. ⌜ MeteredLeaves (now (state .entry)) (now (list .entry)) (event source pool (now («data» .entry))) r
+        (now (state .exit)) (now (list .exit)) ⌝ }
 {
     let s = *state;
     let gain = metered::gain_of(s, list, source, pool, data);
@@ -33,7 +34,8 @@ pub extern "C" fn fortuna_metered_request(
     clock: u32,
     out: &mut [u8],
 ) -> FortunaAnswer
-    ensures { λ r. ⌜ MeteredLeavesBytes (now (state .entry)) (now (list .entry)) (request clock (now (out .entry))) r (now (state .exit)) (now (list .exit)) (now (out .exit)) ⌝ }
+    ensures { λ r. ⌜ MeteredLeavesBytes (now (state .entry)) (now (list .entry)) (request clock (now (out .entry))) r
+        (now (state .exit)) (now (list .exit)) (now (out .exit)) ⌝ }
 {
     let s = *state;
     let o = metered::random_data(s, list, clock, out);
@@ -48,7 +50,8 @@ pub extern "C" fn fortuna_metered_update(
     clock: u32,
     seed: &mut [u8],
 ) -> FortunaAnswer
-    ensures { λ r. ⌜ MeteredLeavesBytes (now (state .entry)) (now (list .entry)) (update clock (now (seed .entry))) r (now (state .exit)) (now (list .exit)) (now (seed .exit)) ⌝ }
+    ensures { λ r. ⌜ MeteredLeavesBytes (now (state .entry)) (now (list .entry)) (update clock (now (seed .entry))) r
+        (now (state .exit)) (now (list .exit)) (now (seed .exit)) ⌝ }
 {
     let s = *state;
     let o = metered::update_seed(s, list, clock, seed);
@@ -63,7 +66,8 @@ pub extern "C" fn fortuna_metered_write(
     clock: u32,
     seed: &mut [u8],
 ) -> FortunaAnswer
-    ensures { λ r. ⌜ MeteredLeavesBytes (now (state .entry)) (now (list .entry)) (write clock (now (seed .entry))) r (now (state .exit)) (now (list .exit)) (now (seed .exit)) ⌝ }
+    ensures { λ r. ⌜ MeteredLeavesBytes (now (state .entry)) (now (list .entry)) (write clock (now (seed .entry))) r
+        (now (state .exit)) (now (list .exit)) (now (seed .exit)) ⌝ }
 {
     let s = *state;
     let o = metered::write_seed(s, list, clock, seed);
@@ -94,7 +98,8 @@ pub extern "C" fn fortuna_metered_shuffle(
     clock: u32,
     numbers: &mut [u16],
 ) -> FortunaAnswer
-    ensures { λ r. ⌜ MeteredLeavesBytes (now (state .entry)) (now (list .entry)) (shuffle clock (now (numbers .entry))) r (now (state .exit)) (now (list .exit)) (now (numbers .exit)) ⌝ }
+    ensures { λ r. ⌜ MeteredLeavesBytes (now (state .entry)) (now (list .entry)) (shuffle clock (now (numbers .entry))) r
+        (now (state .exit)) (now (list .exit)) (now (numbers .exit)) ⌝ }
 {
     let s = *state;
     let o = metered::shuffle(s, list, clock, numbers);

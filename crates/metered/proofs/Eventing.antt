@@ -126,7 +126,8 @@ module _ (s : Fortuna) (rs : List Quota) (source pool : ℕ) (content : List ℕ
   abbrev over : ℕ → Bool
   over cost = ltb (quotaOf rs source .allowance) (quotaOf rs source .spent + cost)
 
-  number-with : N ≡ withOf (ltb maxSource source) (ltb (poolCount - 1) pool) long (malformed s) (full (poolAt s pool .length) (gain n)) (malformedQuotas rs) (not (isListed rs source)) (over (gain n))
+  number-with : N ≡ withOf (ltb maxSource source) (ltb (poolCount - 1) pool) long (malformed s) (full (poolAt s pool .length) (gain n))
+      (malformedQuotas rs) (not (isListed rs source)) (over (gain n))
   unfolding entryNumber inputNumber listNumber stateNumber eventInput eventState eventQuotasNumber
   number-with = refl
 
@@ -148,13 +149,15 @@ module _ (s : Fortuna) (rs : List Quota) (source pool : ℕ) (content : List ℕ
   number-is =
       ap (λ (k : ℕ). let known = knownOf k (refuse (malformedQuotas rs) 37 0) in
       cond (comesFirst known) known (refuse (not (isListed rs source)) 38 (refuse (over (costOf n)) 39 known))) number-own
-      ∙ numbers (ltb maxSource source) (ltb (poolCount - 1) pool) long (malformed s) (full (poolAt s pool .length) (gain n)) (malformedQuotas rs) (not (isListed rs source))
+      ∙ numbers (ltb maxSource source) (ltb (poolCount - 1) pool) long (malformed s) (full (poolAt s pool .length) (gain n)) (malformedQuotas rs)
+      (not (isListed rs source))
       (over (gain n)) (over (costOf n)) (λ h. ap over (cost-is h))
       ∙ sym number-with
 
   own-or-list : Own (callNumber s c) N
   own-or-list h k l =
-      number-own ∙ own-else (ltb maxSource source) (ltb (poolCount - 1) pool) long (malformed s) (full (poolAt s pool .length) (gain n)) (malformedQuotas rs) (not (isListed rs source)) (over (gain n))
+      number-own ∙ own-else (ltb maxSource source) (ltb (poolCount - 1) pool) long (malformed s) (full (poolAt s pool .length) (gain n))
+      (malformedQuotas rs) (not (isListed rs source)) (over (gain n))
       (ap (λ (x : ℕ). eqb x 37) (sym number-with) ∙ h) (ap (λ (x : ℕ). eqb x 38) (sym number-with) ∙ k) (ap (λ (x : ℕ). eqb x 39) (sym number-with) ∙ l)
       ∙ sym number-with
 
@@ -165,7 +168,8 @@ module _ (s : Fortuna) (rs : List Quota) (source pool : ℕ) (content : List ℕ
     own-accepted = let p = entry-passed s (taking (within rs) c) accepted in call-chains s c ∙ rw (p .0, p .1 .1) (then-nothing 0)
 
     input-passed : (a b d : Bool) → inputOf a b d ≡ 0 → d ≡ false
-    input-passed a b d e = passed d 13 0 (omega arith) (passed b 12 (refuse d 13 0) (omega arith) (passed a 11 (refuse b 12 (refuse d 13 0)) (omega arith) e .1) .1) .0
+    input-passed a b d e =
+        passed d 13 0 (omega arith) (passed b 12 (refuse d 13 0) (omega arith) (passed a 11 (refuse b 12 (refuse d 13 0)) (omega arith) e .1) .1) .0
 
     accepted-cost : costOf n ≡ gain n
     unfolding inputNumber eventInput
@@ -196,7 +200,8 @@ module _ (s : Fortuna) (rs : List Quota) (source pool : ℕ) (content : List ℕ
     answer-refused : number (answeredBy (k .gain .answer) m) ≡ N
     answer-refused =
         answer-is (k .gain .answer) m (λ x y z.
-        knows .3 .0 ∙ own-is ∙ own-or-list (ap (λ (j : ℕ). eqb j 37) (sym is) ∙ x) (ap (λ (j : ℕ). eqb j 38) (sym is) ∙ y) (ap (λ (j : ℕ). eqb j 39) (sym is) ∙ z) ∙ sym is)
+        knows .3 .0 ∙ own-is ∙ own-or-list (ap (λ (j : ℕ). eqb j 37) (sym is) ∙ x) (ap (λ (j : ℕ). eqb j 38) (sym is) ∙ y)
+        (ap (λ (j : ℕ). eqb j 39) (sym is) ∙ z) ∙ sym is)
         ∙ is
 
     gains-refused : m ≢ 0 → Gains E s pool (settledBy k m)

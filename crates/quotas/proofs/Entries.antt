@@ -148,7 +148,10 @@ entry-not-33 s e h = not-by-33 (e .quotas) (e .call) (rw h at (entry-numbers s (
 pub list-holds : (P : ℕ → Type 0) → P 0 → P 37 → P 38 → P 39 → (q : Quotas) (c : Call) → P (listNumber q c)
 unfolding listNumber quotasNumber eventQuotasNumber
 list-holds P z a b d without c = z
-list-holds P z a b d (within rs) (event source pool content) = split P (malformedQuotas rs) (λ _. a) (λ _. split P (not (isListed rs source)) (λ _. b) (λ _. split P (ltb (quotaOf rs source .allowance) (quotaOf rs source .spent + gain (length content))) (λ _. d) (λ _. z)))
+list-holds P z a b d (within rs) (event source pool content) =
+    split P (malformedQuotas rs) (λ _. a)
+    (λ _. split P (not (isListed rs source)) (λ _. b)
+    (λ _. split P (ltb (quotaOf rs source .allowance) (quotaOf rs source .spent + gain (length content))) (λ _. d) (λ _. z)))
 list-holds P z a b d (within rs) (request clock buffer) = split P (malformedQuotas rs) (λ _. a) (λ _. z)
 list-holds P z a b d (within rs) (update clock seed) = split P (malformedQuotas rs) (λ _. a) (λ _. z)
 list-holds P z a b d (within rs) (write clock seed) = split P (malformedQuotas rs) (λ _. a) (λ _. z)

@@ -67,10 +67,12 @@ module _ (x : ℕ) where
   unfolding isEventOf
   not-own y pool content h e = true≢false (sym (eq-eqb y x e) ∙ h)
 
-  plain-call : (s : Fortuna) (rs : List Quota) (c : Call) → chargedFor c rs ≡ rs → takenBy s rs c .outcome .effect .emptied ≡ 0 → Alike rs (returned (takenBy s rs c))
+  plain-call : (s : Fortuna) (rs : List Quota) (c : Call) → chargedFor c rs ≡ rs → takenBy s rs c .outcome .effect .emptied ≡ 0
+      → Alike rs (returned (takenBy s rs c))
   plain-call s rs c f q = alike-same rs _ (returned-unless s rs c q f)
 
-  other-call : (s : Fortuna) (rs : List Quota) (c : Call) → isEventOf x c ≡ false → takenBy s rs c .outcome .effect .emptied ≡ 0 → Alike rs (returned (takenBy s rs c))
+  other-call : (s : Fortuna) (rs : List Quota) (c : Call) → isEventOf x c ≡ false → takenBy s rs c .outcome .effect .emptied ≡ 0
+      → Alike rs (returned (takenBy s rs c))
   other-call s rs (event y pool content) h q = other-event s rs y pool content (not-own y pool content h) q
   other-call s rs (request clock buffer) h q = plain-call s rs (request clock buffer) (unfold chargedFor in refl) q
   other-call s rs (update clock seed) h q = plain-call s rs (update clock seed) (unfold chargedFor in refl) q
@@ -90,7 +92,8 @@ module _ (x : ℕ) where
   abbrev numbered : ℕ → ℕ → Bool → Bool → ℕ
   numbered i l t u = andThen i (andThen l (refuse t 21 (refuse u 22 0)))
 
-  settled : (i l : ℕ) (t u t′ u′ : Bool) → (numbered i l t u ≡ 21 → ⊥) × (numbered i l t u ≡ 22 → ⊥) → (numbered i l t′ u′ ≡ 21 → ⊥) × (numbered i l t′ u′ ≡ 22 → ⊥) → numbered i l t u ≡ numbered i l t′ u′
+  settled : (i l : ℕ) (t u t′ u′ : Bool) → (numbered i l t u ≡ 21 → ⊥) × (numbered i l t u ≡ 22 → ⊥)
+      → (numbered i l t′ u′ ≡ 21 → ⊥) × (numbered i l t′ u′ ≡ 22 → ⊥) → numbered i l t u ≡ numbered i l t′ u′
   unfolding andThen
   settled zero zero t u t′ u′ h k = state-number t u (h .0) (h .1) ∙ sym (state-number t′ u′ (k .0) (k .1))
   settled zero (suc l) t u t′ u′ h k = rw (eqb·suc-zero l)
@@ -103,7 +106,8 @@ module _ (x : ℕ) where
     number-is :
         (s : Fortuna) (rs : List Quota) →
         takenBy s rs own .outcome .number
-        ≡ numbered (eventInput x pool (length content)) (eventQuotasNumber rs x (gain (length content))) (malformed s) (full (poolAt s pool .length) (gain (length content)))
+        ≡ numbered (eventInput x pool (length content)) (eventQuotasNumber rs x (gain (length content))) (malformed s)
+        (full (poolAt s pool .length) (gain (length content)))
     unfolding takenBy entryStep outcome entryNumber inputNumber listNumber stateNumber callFound eventState
     number-is s rs = then-nothing _
 
@@ -126,8 +130,11 @@ module _ (x : ℕ) where
       where
         there :
             takenBy t us own .outcome .number
-            ≡ numbered (eventInput x pool (length content)) (eventQuotasNumber rs x (gain (length content))) (malformed t) (full (poolAt t pool .length) (gain (length content)))
-        there = number-is t us ∙ ap (λ (l : ℕ). numbered (eventInput x pool (length content)) l (malformed t) (full (poolAt t pool .length) (gain (length content)))) (sym (list-alike rs us a))
+            ≡ numbered (eventInput x pool (length content)) (eventQuotasNumber rs x (gain (length content))) (malformed t)
+            (full (poolAt t pool .length) (gain (length content)))
+        there = number-is t us
+            ∙ ap (λ (l : ℕ). numbered (eventInput x pool (length content)) l (malformed t) (full (poolAt t pool .length) (gain (length content))))
+            (sym (list-alike rs us a))
 
     own-charged : (rs us : List Quota) (cost : ℕ) → Alike rs us → Passes rs x cost → Passes us x cost → Alike (charged rs x cost) (charged us x cost)
     own-charged rs us cost a p q =
@@ -176,13 +183,16 @@ module _ (x : ℕ) where
   abbrev rest : Fortuna → List Quota → Call → List Call → List Taken
   rest s rs c cs = handedOn (takenBy s rs c .outcome .effect .next) (returned (takenBy s rs c)) cs
 
-  skips : (s : Fortuna) (rs : List Quota) (c : Call) (cs : List Call) → isEventOf x c ≡ false → answersOf x (handedOn s rs (c ∷ cs)) ≡ answersOf x (rest s rs c cs)
+  skips : (s : Fortuna) (rs : List Quota) (c : Call) (cs : List Call) → isEventOf x c ≡ false
+      → answersOf x (handedOn s rs (c ∷ cs)) ≡ answersOf x (rest s rs c cs)
   skips s rs c cs e = ap (answersOf x) (handed-more s rs c cs) ∙ answers-skip (takenBy s rs c) (rest s rs c cs) (ap (isEventOf x) (taken-call s rs c) ∙ e)
 
-  takes : (s : Fortuna) (rs : List Quota) (c : Call) (cs : List Call) → isEventOf x c ≡ true → answersOf x (handedOn s rs (c ∷ cs)) ≡ takenBy s rs c .outcome .number ∷ answersOf x (rest s rs c cs)
+  takes : (s : Fortuna) (rs : List Quota) (c : Call) (cs : List Call) → isEventOf x c ≡ true
+      → answersOf x (handedOn s rs (c ∷ cs)) ≡ takenBy s rs c .outcome .number ∷ answersOf x (rest s rs c cs)
   takes s rs c cs e = ap (answersOf x) (handed-more s rs c cs) ∙ answers-take (takenBy s rs c) (rest s rs c cs) (ap (isEventOf x) (taken-call s rs c) ∙ e)
 
-  quiet : (s : Fortuna) (rs : List Quota) (c : Call) (cs : List Call) → NoReseed (handedOn s rs (c ∷ cs)) → (takenBy s rs c .outcome .effect .emptied ≡ 0) × NoReseed (rest s rs c cs)
+  quiet : (s : Fortuna) (rs : List Quota) (c : Call) (cs : List Call) → NoReseed (handedOn s rs (c ∷ cs))
+      → (takenBy s rs c .outcome .effect .emptied ≡ 0) × NoReseed (rest s rs c cs)
   quiet s rs c cs q = reseed-parts (takenBy s rs c) (rest s rs c cs) (subst NoReseed (handed-more s rs c cs) q)
 
   other-one : (y pool : ℕ) (content : List ℕ) → (y ≡ x → ⊥) → isEventOf x (event y pool content) ≡ false
@@ -204,12 +214,14 @@ module _ (x : ℕ) where
 
   own-step :
       (c : Call) → IsOwn c → (s t : Fortuna) (rs us : List Quota) → Alike rs us →
-      ((takenBy s rs c .outcome .number ≡ 21 → ⊥) × (takenBy s rs c .outcome .number ≡ 22 → ⊥)) → ((takenBy t us c .outcome .number ≡ 21 → ⊥) × (takenBy t us c .outcome .number ≡ 22 → ⊥)) →
+      ((takenBy s rs c .outcome .number ≡ 21 → ⊥) × (takenBy s rs c .outcome .number ≡ 22 → ⊥))
+      → ((takenBy t us c .outcome .number ≡ 21 → ⊥) × (takenBy t us c .outcome .number ≡ 22 → ⊥)) →
       takenBy s rs c .outcome .effect .emptied ≡ 0 → takenBy t us c .outcome .effect .emptied ≡ 0 →
       (takenBy s rs c .outcome .number ≡ takenBy t us c .outcome .number) × Alike (returned (takenBy s rs c)) (returned (takenBy t us c))
   own-step c (is-own pool content e) =
       subst (λ (d : Call). (s t : Fortuna) (rs us : List Quota) → Alike rs us →
-      ((takenBy s rs d .outcome .number ≡ 21 → ⊥) × (takenBy s rs d .outcome .number ≡ 22 → ⊥)) → ((takenBy t us d .outcome .number ≡ 21 → ⊥) × (takenBy t us d .outcome .number ≡ 22 → ⊥)) →
+      ((takenBy s rs d .outcome .number ≡ 21 → ⊥) × (takenBy s rs d .outcome .number ≡ 22 → ⊥))
+      → ((takenBy t us d .outcome .number ≡ 21 → ⊥) × (takenBy t us d .outcome .number ≡ 22 → ⊥)) →
       takenBy s rs d .outcome .effect .emptied ≡ 0 → takenBy t us d .outcome .effect .emptied ≡ 0 →
       (takenBy s rs d .outcome .number ≡ takenBy t us d .outcome .number) × Alike (returned (takenBy s rs d)) (returned (takenBy t us d))) (sym e)
       (λ s t rs us a h k q r. let n = same-number pool content s t rs us a h k in (n, own-event pool content s t rs us a n q r))

@@ -66,11 +66,13 @@ module _ (s : Fortuna) (rs : List Quota) (c : Call) (quiet : takenBy s rs c .out
   returned-unless e = left-unless c rs _ quiet e
 
 -- an event that is not charged leaves the list, and one that is was let pass
-pub taken-allowed : (s : Fortuna) (rs : List Quota) (source pool : ℕ) (content : List ℕ) → takenBy s rs (event source pool content) .outcome .number ≡ 0 → Passes rs source (gain (length content))
+pub taken-allowed : (s : Fortuna) (rs : List Quota) (source pool : ℕ) (content : List ℕ)
+    → takenBy s rs (event source pool content) .outcome .number ≡ 0 → Passes rs source (gain (length content))
 unfolding takenBy
 taken-allowed s rs source pool content e = event-allowed s rs source pool content e
 
-pub charged-event : (source pool : ℕ) (content : List ℕ) (rs : List Quota) → chargedFor (event source pool content) rs ≡ charged rs source (gain (length content))
+pub charged-event : (source pool : ℕ) (content : List ℕ) (rs : List Quota)
+    → chargedFor (event source pool content) rs ≡ charged rs source (gain (length content))
 unfolding chargedFor
 charged-event source pool content rs = refl
 
@@ -99,7 +101,8 @@ pub handed-none : (s : Fortuna) (rs : List Quota) → handedOn s rs [] ≡ []
 unfolding handedOn
 handed-none s rs = refl
 
-pub handed-more : (s : Fortuna) (rs : List Quota) (c : Call) (cs : List Call) → handedOn s rs (c ∷ cs) ≡ takenBy s rs c ∷ handedOn (takenBy s rs c .outcome .effect .next) (returned (takenBy s rs c)) cs
+pub handed-more : (s : Fortuna) (rs : List Quota) (c : Call) (cs : List Call)
+    → handedOn s rs (c ∷ cs) ≡ takenBy s rs c ∷ handedOn (takenBy s rs c .outcome .effect .next) (returned (takenBy s rs c)) cs
 unfolding handedOn
 handed-more s rs c cs = refl
 
@@ -148,7 +151,8 @@ module _ (x : ℕ) where
   unfolding Within
   within-charged rs n cost p (inl z) = inr (let w = p .within in omega arith)
   within-charged rs n cost p (inr h) =
-      let k : quotaOf rs x .spent + cost + n ≤ quotaOf rs x .allowance = subst (λ (q : Quota). q .spent + n ≤ q .allowance) (charged-own rs x cost (p .listed)) h in
+      let k : quotaOf rs x .spent + cost + n ≤ quotaOf rs x .allowance =
+      subst (λ (q : Quota). q .spent + n ≤ q .allowance) (charged-own rs x cost (p .listed)) h in
       inr (omega arith)
 
   bytes-own : (source pool : ℕ) (content : List ℕ) → eqb source x ≡ true → bytesOf x (event source pool content) ≡ gain (length content)
@@ -165,7 +169,8 @@ module _ (x : ℕ) where
 
   module _ (s : Fortuna) (rs : List Quota) where
     -- a call that is no event
-    plain-within : (c : Call) (n : ℕ) → chargedFor c rs ≡ rs → bytesOf x c ≡ 0 → takenBy s rs c .outcome .effect .emptied ≡ 0 → Within (returned (takenBy s rs c)) n → Within rs (puts c (takenBy s rs c .outcome .number) + n)
+    plain-within : (c : Call) (n : ℕ) → chargedFor c rs ≡ rs → bytesOf x c ≡ 0 → takenBy s rs c .outcome .effect .emptied ≡ 0
+        → Within (returned (takenBy s rs c)) n → Within rs (puts c (takenBy s rs c .outcome .number) + n)
     plain-within c n f z q w =
         within-same rs (returned (takenBy s rs c)) n (puts c (takenBy s rs c .outcome .number)) (returned-unless s rs c q f)
         (rw z (split (λ (k : ℕ). k ≡ 0) (eqb (takenBy s rs c .outcome .number) 0) (λ _. refl) (λ _. refl))) w
@@ -187,7 +192,9 @@ module _ (x : ℕ) where
         by-test (eqb source x) _
         (λ h.
         let y = eqb-true source x h in
-        rw (a, bytes-own source pool content h) (within-charged rs n (gain (length content)) (subst (λ k. Passes rs k (gain (length content))) y p) (subst (λ k. Within (charged rs k (gain (length content))) n) y v)))
+        rw (a, bytes-own source pool content h)
+        (within-charged rs n (gain (length content)) (subst (λ k. Passes rs k (gain (length content))) y p)
+        (subst (λ k. Within (charged rs k (gain (length content))) n) y v)))
         (λ h.
         within-record rs (charged rs source (gain (length content))) n _
         (charged-other rs source (gain (length content)) x (λ y. true≢false (sym (eq-eqb source x y) ∙ h)))
@@ -195,7 +202,8 @@ module _ (x : ℕ) where
         (λ a.
         within-same rs (returned t) n _ (returned-refused s rs c q a) (rw a) w)
 
-    call-within : (c : Call) (n : ℕ) → takenBy s rs c .outcome .effect .emptied ≡ 0 → Within (returned (takenBy s rs c)) n → Within rs (puts c (takenBy s rs c .outcome .number) + n)
+    call-within : (c : Call) (n : ℕ) → takenBy s rs c .outcome .effect .emptied ≡ 0 → Within (returned (takenBy s rs c)) n
+        → Within rs (puts c (takenBy s rs c .outcome .number) + n)
     call-within (event source pool content) n q w = event-within source pool content n q w
     call-within (request clock buffer) n q w = plain-within (request clock buffer) n (unfold chargedFor in refl) (unfold bytesOf in refl) q w
     call-within (update clock seed) n q w = plain-within (update clock seed) n (unfold chargedFor in refl) (unfold bytesOf in refl) q w
@@ -221,7 +229,8 @@ module _ (x : ℕ) where
       let m = sym (handed-more s rs c calls) ∙ e in
       let h : takenBy s rs c ≡ t = cons-head (takenBy s rs c) t _ (ts ++ later) m in
       let k = reseed-parts t ts q in
-      let ih = stretch-within ts later (takenBy s rs c .outcome .effect .next) (returned (takenBy s rs c)) calls (cons-tail (takenBy s rs c) t _ (ts ++ later) m) (k .1) in
+      let ih = stretch-within ts later (takenBy s rs c .outcome .effect .next) (returned (takenBy s rs c)) calls
+      (cons-tail (takenBy s rs c) t _ (ts ++ later) m) (k .1) in
       rw (accepted-more t ts)
       (subst (λ (u : Taken). Within rs (puts (u .call) (u .outcome .number) + acceptedBytes x ts)) h
       (rw (taken-call s rs c) (call-within s rs c (acceptedBytes x ts) (subst (λ (u : Taken). u .outcome .effect .emptied ≡ 0) (sym h) (k .0)) ih)))
@@ -244,7 +253,8 @@ module _ (x : ℕ) where
   run-within (t ∷ ts) stretch later s rs [] e q = absurd (nil-cons t (ts ++ (stretch ++ later)) (sym (handed-none s rs) ∙ e))
   run-within (t ∷ ts) stretch later s rs (c ∷ calls) e q =
       let m = sym (handed-more s rs c calls) ∙ e in
-      let ih = run-within ts stretch later (takenBy s rs c .outcome .effect .next) (returned (takenBy s rs c)) calls (cons-tail (takenBy s rs c) t _ (ts ++ (stretch ++ later)) m) q in
+      let ih = run-within ts stretch later (takenBy s rs c .outcome .effect .next) (returned (takenBy s rs c)) calls
+      (cons-tail (takenBy s rs c) t _ (ts ++ (stretch ++ later)) m) q in
       subst (λ k. acceptedBytes x stretch ≤ k) (returned-allowance s rs c) ih
 
   -- from its start

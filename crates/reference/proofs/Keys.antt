@@ -156,7 +156,8 @@ module _ (b : Reference) (s : Sound b) where
           next = rw allowed (ap (λ (e : Effect GeneratorState). encode (e .next)) (m .effect));
         }
 
-    pub takes : TakenFrom (madeFrom (decode (poolReseed (atReseed (concrete b) (e .call)) (readingOf (e .call)) .generator)) (e .call)) (entryStep (concrete b) e)
+    pub takes : TakenFrom (madeFrom (decode (poolReseed (atReseed (concrete b) (e .call)) (readingOf (e .call)) .generator)) (e .call))
+        (entryStep (concrete b) e)
     takes =
         let c = e .call in
         subst (λ (o : Outcome Fortuna). TakenFrom (madeFrom (decode (poolReseed (atReseed (concrete b) c) (readingOf c) .generator)) c) o)

@@ -123,7 +123,8 @@ faulty-is rs = rw (repeats-counted rs, overspent-some rs)
 module _ (rs : List Quota) (x n : ℕ) where
   -- 38 and 39 of a well-formed list
   by-own : repeats rs ≡ false → isListed rs x ≡ true
-      → refuse (some (λ r. ltb (r .allowance) (r .spent + 3 + n)) (recordsOf x rs)) 39 0 ≡ refuse (ltb (quotaOf rs x .allowance) (quotaOf rs x .spent + gain n)) 39 0
+      → refuse (some (λ r. ltb (r .allowance) (r .spent + 3 + n)) (recordsOf x rs)) 39 0
+      ≡ refuse (ltb (quotaOf rs x .allowance) (quotaOf rs x .spent + gain n)) 39 0
   unfolding some gain headerLength
   by-own a h =
       let one : quotaOf rs x .spent + 3 + n ≡ quotaOf rs x .spent + (3 + n) = omega arith in

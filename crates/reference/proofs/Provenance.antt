@@ -108,13 +108,16 @@ same-number before c =
     ap (λ (s : Fortuna). entryNumber s c) (agrees before .state) ∙ entry-agrees (referenceAfter before) (sound-after before) c
 
 -- the outcome of a call that is accepted and makes a pool reseed
-key-taken : (calls : List Entry) (c : Entry) → entryNumber (stateAfter calls) c ≡ 0 → dueFor (stateAfter calls) (c .call) ≡ true → TakenFrom (madeFrom (decode (reseededBy calls (c .call))) (c .call)) (entryStep (stateAfter calls) c)
+key-taken : (calls : List Entry) (c : Entry) → entryNumber (stateAfter calls) c ≡ 0 → dueFor (stateAfter calls) (c .call) ≡ true
+    → TakenFrom (madeFrom (decode (reseededBy calls (c .call))) (c .call)) (entryStep (stateAfter calls) c)
 key-taken calls c e d =
     let b = referenceAfter calls in
     let p = due-parts (stateAfter calls) (c .call) d in
-    let due-now : dueAt b (readingOf (c .call)) ≡ true = sym (due-concrete b (readingOf (c .call))) ∙ ap (λ (s : Fortuna). due s (readingOf (c .call))) (sym (agrees calls .state)) ∙ p .1 in
+    let due-now : dueAt b (readingOf (c .call)) ≡ true =
+    sym (due-concrete b (readingOf (c .call))) ∙ ap (λ (s : Fortuna). due s (readingOf (c .call))) (sym (agrees calls .state)) ∙ p .1 in
     subst (λ (g : Generator). TakenFrom (madeFrom (decode g) (c .call)) (entryStep (stateAfter calls) c)) (reseed-key calls (c .call))
-    (subst (λ (s : Fortuna). TakenFrom (madeFrom (decode (poolReseed (atReseed s (c .call)) (readingOf (c .call)) .generator)) (c .call)) (entryStep s c)) (sym (agrees calls .state))
+    (subst (λ (s : Fortuna). TakenFrom (madeFrom (decode (poolReseed (atReseed s (c .call)) (readingOf (c .call)) .generator)) (c .call))
+    (entryStep s c)) (sym (agrees calls .state))
     (takes b (sound-after calls) c (sym (same-number calls c) ∙ e) (p .0) due-now))
 
 pub enters-key : (calls : List Entry) (c : Entry) → EntersKey calls c

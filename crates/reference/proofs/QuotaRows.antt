@@ -29,7 +29,8 @@ unfolding takenBy returned handedOn leftOf bytesOf acceptedBytes isEventOf answe
 handing = tt
 
 pub quota-rows : QuotaRows
-unfolding answering adding emptying seeding starting metering handing entryNumbers callNumbers many refusedWith withPools withFirstPool withTimer keyedUnseeded firstSeed page
+unfolding answering adding emptying seeding starting metering handing entryNumbers callNumbers many refusedWith withPools withFirstPool withTimer
+    keyedUnseeded firstSeed page
 quota-rows =
     record {
       allowances = refl;

@@ -209,10 +209,12 @@ unfolding entryStep outcome
 step-emptied s c =
     outcome-emptied (entryNumber s c) (inputBuffer (c .call)) s (callEffect s (c .call)) (dueFor s (c .call)) (effect-emptied s (c .call))
 
-step-mark : (s : Fortuna) (c : Entry) → entryStep s c .effect .next .«last_reseed» ≡ cond (ltb 0 (entryStep s c .effect .emptied)) (readingOf (c .call)) (s .«last_reseed»)
+step-mark : (s : Fortuna) (c : Entry)
+    → entryStep s c .effect .next .«last_reseed» ≡ cond (ltb 0 (entryStep s c .effect .emptied)) (readingOf (c .call)) (s .«last_reseed»)
 step-mark s c =
     rw (step-emptied s c)
-    (unfold entryStep outcome in outcome-mark (entryNumber s c) (inputBuffer (c .call)) s (callEffect s (c .call)) (dueFor s (c .call)) (readingOf (c .call)) (effect-mark s (c .call)))
+    (unfold entryStep outcome in outcome-mark (entryNumber s c) (inputBuffer (c .call)) s (callEffect s (c .call)) (dueFor s (c .call))
+    (readingOf (c .call)) (effect-mark s (c .call)))
 
 -- a reseed is due only for a call that makes a request
 pub due-parts : (s : Fortuna) (c : Call) → dueFor s c ≡ true → (requests c ≡ true) × (due s (readingOf c) ≡ true)

@@ -101,7 +101,8 @@ SpentRow = map (λ (c : ℕ). step (seededState c) (request 0 []) .number) ((2 ^
 unfoldable pub bookedAfter : ℕ → List ℕ
 bookedAfter r =
     map scheduled
-    (referenceStep 0 (record { generator = initial; lastReseed = 0; reseeds = r; events = []; keyRequests = 0 }) (taking without (event 7 2 (0xa1 ∷ []))) .effect .next .events)
+    (referenceStep 0 (record { generator = initial; lastReseed = 0; reseeds = r; events = []; keyRequests = 0 })
+    (taking without (event 7 2 (0xa1 ∷ []))) .effect .next .events)
 
 -- pool 2, an event after reseed 5 enters at 8, after reseed 8 at 12
 abbrev pub ScheduleRow : Type 0

@@ -45,7 +45,8 @@ pub record TimerStep (calls : List Entry) (c : Entry) : Type 0 where
   -- reseed was made yet or more than 100 ms went by since the last
   pub reseeds :
       (0 < entryStep (stateAfter calls) c .effect .emptied)
-      ↔ (((entryStep (stateAfter calls) c .number ≡ 0) ⊎ (entryStep (stateAfter calls) c .number ≡ 33)) × (requests (c .call) ≡ true) × (64 ≤ poolAt (stateAfter calls) 0 .length)
+      ↔ (((entryStep (stateAfter calls) c .number ≡ 0) ⊎ (entryStep (stateAfter calls) c .number ≡ 33)) × (requests (c .call) ≡ true)
+      × (64 ≤ poolAt (stateAfter calls) 0 .length)
       × ((reseedsAfter calls ≡ 0) ⊎ ((e : ℕ) × Later (stateAfter calls .«last_reseed») e (readingOf (c .call)) × (100 < e))))
   -- the mark moves exactly then, to the reading
   pub mark :

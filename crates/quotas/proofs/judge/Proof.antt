@@ -19,20 +19,26 @@ returns c =
 returns-2 : tie.Need-returns-2
 unfolding verdictOf
 returns-2 c =
-    let f : comesFirst (c .before .before .before .args .number) ≡ false = sym (c .before .before .comes-first .ensures) ∙ c .before .if1 .left in
-    simp (f, lt-ltb (c .before .before .before .args .r .allowance) (c .before .before .before .args .r .spent + c .before .before .before .args .cost) (omega arith))
+    let compared = c .before .before in
+    let asked = compared .before in
+    let f : comesFirst (asked .args .number) ≡ false = sym (compared .comes-first .ensures) ∙ c .before .if1 .left in
+    simp (f, lt-ltb (asked .args .r .allowance) (asked .args .r .spent + asked .args .cost) (omega arith))
 
 returns-3 : tie.Need-returns-3
 unfolding verdictOf
 returns-3 c =
-    let f : comesFirst (c .before .before .before .before .args .number) ≡ false = sym (c .before .before .before .comes-first .ensures) ∙ c .before .before .if1 .left in
-    simp (f, lt-ltb (c .before .before .before .before .args .r .allowance) (c .before .before .before .before .args .r .spent + c .before .before .before .before .args .cost) (omega arith))
+    let compared = c .before .before .before in
+    let asked = compared .before in
+    let f : comesFirst (asked .args .number) ≡ false = sym (compared .comes-first .ensures) ∙ c .before .before .if1 .left in
+    simp (f, lt-ltb (asked .args .r .allowance) (asked .args .r .spent + asked .args .cost) (omega arith))
 
 returns-4 : tie.Need-returns-4
 unfolding verdictOf
 returns-4 c =
-    let f : comesFirst (c .before .before .before .before .before .args .number) ≡ false = sym (c .before .before .before .before .comes-first .ensures) ∙ c .before .before .before .if1 .left in
-    simp (f, le-ltb (c .before .before .before .before .before .args .r .allowance) (c .before .before .before .before .before .args .r .spent + c .before .before .before .before .before .args .cost) (omega arith), ne-eqb (c .before .before .before .before .before .args .number) 0 (c .if4 .taken))
+    let compared = c .before .before .before .before in
+    let asked = compared .before in
+    let f : comesFirst (asked .args .number) ≡ false = sym (compared .comes-first .ensures) ∙ c .before .before .before .if1 .left in
+    simp (f, le-ltb (asked .args .r .allowance) (asked .args .r .spent + asked .args .cost) (omega arith), ne-eqb (asked .args .number) 0 (c .if4 .taken))
 
 comes-first-requires : tie.Need-comes-first-requires
 comes-first-requires c κs = search needs
@@ -43,8 +49,10 @@ charged-by-requires c κs = search needs
 returns-5 : tie.Need-returns-5
 unfolding verdictOf
 returns-5 c =
-    let f : comesFirst (c .before .before .before .before .before .before .args .number) ≡ false = sym (c .before .before .before .before .before .comes-first .ensures) ∙ c .before .before .before .before .if1 .left in
-    simp (f, le-ltb (c .before .before .before .before .before .before .args .r .allowance) (c .before .before .before .before .before .before .args .r .spent + c .before .before .before .before .before .before .args .cost) (omega arith), eq-eqb (c .before .before .before .before .before .before .args .number) 0 (omega arith))
+    let compared = c .before .before .before .before .before in
+    let asked = compared .before in
+    let f : comesFirst (asked .args .number) ≡ false = sym (compared .comes-first .ensures) ∙ c .before .before .before .before .if1 .left in
+    simp (f, le-ltb (asked .args .r .allowance) (asked .args .r .spent + asked .args .cost) (omega arith), eq-eqb (asked .args .number) 0 (omega arith))
     (ap (λ (x : Quota). record { number = 0; after = x }) (c .charged-by .ensures))
 
 pub judge-spec : {M : Type 1} → statement M
