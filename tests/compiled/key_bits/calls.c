@@ -1,7 +1,8 @@
 /* Every call that works on a key, with the key's bytes marked as unknown to memcheck: it reports each jump, and each
    address, that they decide. As 'calls blank' and 'calls other' it makes one seed update, by a blank page or by
-   one whose last byte is another, with the seed's bytes unknown in place of the key's. A list of quotas is no secret,
-   and known throughout: whether it is cleared must not go by the key. */
+   one whose last byte is another, with the seed's bytes unknown in place of the key's; as 'calls metered-blank' and
+   'calls metered-other' the same with a list. A list of quotas is no secret, and known throughout: whether it is
+   cleared must not go by the key. */
 #include <fortuna.h>
 #include <stdio.h>
 #include <stdlib.h>
@@ -123,14 +124,28 @@ static void cipher_calls(void)
     fortuna_aes256_bytewise_block(fortuna_aes256_bytewise_expand(g.key), output);
 }
 
-/* A seed update by a page of FF but for its last byte, all of it unknown to memcheck. */
-static void update_by(uint8_t last, uint32_t expected)
+/* A page of FF but for its last byte, all of it unknown to memcheck. */
+static void unknown_seed(uint8_t last)
 {
-    fortuna_state s = fortuna_new();
     memset(seed, 0xff, SEED);
     seed[SEED - 1] = last;
     VALGRIND_MAKE_MEM_UNDEFINED(seed, SEED);
+}
+
+static void update_by(uint8_t last, uint32_t expected)
+{
+    fortuna_state s = fortuna_new();
+    unknown_seed(last);
     answered("update by an unknown seed", fortuna_update(&s, 0, seed, SEED).number, expected);
+}
+
+static void metered_update_by(uint8_t last, uint32_t expected)
+{
+    fortuna_state s = fortuna_new();
+    fill_quotas(false);
+    unknown_seed(last);
+    answered("metered update by an unknown seed", fortuna_metered_update(&s, quotas, RECORDS, 0, seed, SEED).number,
+             expected);
 }
 
 int main(int count, char **words)
@@ -140,6 +155,10 @@ int main(int count, char **words)
         update_by(0xff, FORTUNA_BLANK_SEED);
     } else if (strcmp(which, "other") == 0) {
         update_by(0xfe, FORTUNA_DONE);
+    } else if (strcmp(which, "metered-blank") == 0) {
+        metered_update_by(0xff, FORTUNA_BLANK_SEED);
+    } else if (strcmp(which, "metered-other") == 0) {
+        metered_update_by(0xfe, FORTUNA_DONE);
     } else {
         station_calls();
         metered_calls(false);
