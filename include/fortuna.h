@@ -11,15 +11,15 @@
    it to get past that. Once all 32 hold 64 bytes or more, nothing tells: the calls go on, and the keys are those of
    neither edition.
 
-   The caller sees to it that a pointer points to as many bytes, samples, or numbers of a list, as its length says and
-   is not null, not even at length 0, and that a buffer or a list overlaps nothing else that the same call is lent. Then every
-   call returns, and none allocates, keeps a pointer, or reads or changes anything but what it is lent.
+   The caller sees to it that a pointer points to as many bytes, samples, records, or numbers of a list, as its length
+   says and is not null, not even at length 0, and that a buffer or a list overlaps nothing else that the same call is
+   lent. Then every call returns, and none allocates, keeps a pointer, or reads or changes anything but what it is lent.
 
-   One call at a time on a state. A call reads the whole state, works, and stores the whole next state, and nothing in
-   the library waits for another call. An event given from an interrupt while a request runs on the same state is
-   answered FORTUNA_DONE and is lost. Two threads that draw from one state at the same time can get equal keys. So let
-   one task own the state, and let interrupts and other threads hand their noise to it: examples/c/station.c does this
-   with a ring buffer. Calls on different states may run at the same time.
+   One call at a time on a state, and on a list of quotas. A call reads the whole state, works, and stores the whole
+   next state, and nothing in the library waits for another call. An event given from an interrupt while a request runs
+   on the same state is answered FORTUNA_DONE and is lost. Two threads that draw from one state at the same time can get
+   equal keys. So let one task own the state, and let interrupts and other threads hand their noise to it:
+   examples/c/station.c does this with a ring buffer. Calls on different states may run at the same time.
 
    Stack. On x86-64 a call needs at most this many bytes of stack, the caller's copy of what it returns included
    (tests/compiled/footprint.py measures it; docs/BENCHMARKS.md has the figures):
@@ -62,10 +62,10 @@
    enciphers under keys of its own where such traces matter (fortuna_aes256_bytewise_block).
 
    Numbers returned: FORTUNA_DONE, or the number of a refusal, the first in the order of the list below where more
-   than one applies. After a refusal buffers and state are as before; pools emptied are 0. FORTUNA_NONE_DRAWN differs:
-   the call's tries were made, so that the state has advanced, and pools may have been emptied; a list is as before.
-   No call is refused for another reason. A sample that fails a health test is no refusal: the number is FORTUNA_DONE,
-   and fortuna_health_passed tells. */
+   than one applies. After a refusal buffers, quotas and state are as before; pools emptied are 0. FORTUNA_NONE_DRAWN
+   differs: the call's tries were made, so that the state has advanced. If that emptied pools, quotas have nothing spent;
+   the numbers of a shuffle are as before. No call is refused for another reason. A sample that fails a health test is
+   no refusal: the number is FORTUNA_DONE, and fortuna_health_passed tells. */
 #ifndef FORTUNA_H
 #define FORTUNA_H
 
@@ -101,7 +101,8 @@ enum {
     /* a seed update: a blank seed, which is 64 equal bytes, whatever the byte, as a page of flash memory that was never
        written. fortuna_update says what to do then */
     FORTUNA_BLANK_SEED = 36,
-    /* a call with quotas: more than 64 records, a source that has two, or a record that has spent above its allowance */
+    /* a call with quotas: more than 64 records, a source that has two, or a record that has spent above its
+       allowance */
     FORTUNA_BAD_QUOTAS = 37,
     /* an event with quotas: no record of its source */
     FORTUNA_NOT_LISTED = 38,
@@ -343,20 +344,27 @@ fortuna_answer fortuna_shuffle(fortuna_state *state, uint32_t clock, uint16_t *l
      made a pool reseed, the list is as before. An old list that is lent again counts from what it says.
    - Records may stand in any order. With their sources in rising order the check of the list, which each call makes, is
      quicker.
-   - The allowance is the caller's choice. 70 for an instrument lets 2 events of 32 bytes through, so that it can bring
-     pool 0 to 64 bytes by itself; with 60 for each of several instruments none of them can. */
+   - An allowance counts the bytes for every pool, and only a pool reseed gives it back. Choose allowances with which
+     the sources bring pool 0 to 64 bytes. If they have all spent theirs before, no pool reseed ever comes due, and
+     every event is refused with FORTUNA_OVER_ALLOWANCE from then on. A source that goes round the pools with events of
+     32 bytes brings 35 bytes to pool 0 with each round of 32 * 35 = 1,120.
+   - Only an allowance below 64 stops a source that sends to pool 0 alone from making a reseed come due by itself. The
+     others must then feed pool 0 within theirs.
+   - The list is not stored. After a power-up the pools are empty, so begin with nothing spent.
+   - FORTUNA_BAD_QUOTAS has not touched the state: the list is the caller's mistake, or its memory was damaged. Set it
+     up anew. */
 
-/* A record: a source, its allowance and the bytes spent. Any values may stand in it. A record of a source above 65,535
-   is as good as none: no event of such a source is accepted. */
+/* A record: a source, its allowance and the bytes spent. Any values may stand in it. No event of a source above 65,535
+   is accepted, but its record counts among the 64, and may have no second. */
 typedef struct {
     uint32_t source;
     uint32_t allowance;
     uint32_t spent;
 } fortuna_quota;
 
-/* As the function of the same name without metered_, with the records records at quotas, which neither the state nor a
-   buffer may overlap. Beside the numbers of that function: FORTUNA_BAD_QUOTAS, and for an event FORTUNA_NOT_LISTED and
-   FORTUNA_OVER_ALLOWANCE. A shuffle of 0 or 1 numbers looks at the list too. */
+/* As the function of the same name without metered_, with the list at quotas, of as many records as `records` says.
+   List, state and buffer must not overlap. Beside the numbers of that function: FORTUNA_BAD_QUOTAS, and for an event
+   FORTUNA_NOT_LISTED and FORTUNA_OVER_ALLOWANCE. A shuffle of 0 or 1 numbers looks at the list too. */
 uint32_t fortuna_metered_event(fortuna_state *state, fortuna_quota *quotas, size_t records, uint32_t source,
                                uint32_t pool, const uint8_t *data, size_t length);
 fortuna_answer fortuna_metered_request(fortuna_state *state, fortuna_quota *quotas, size_t records, uint32_t clock,

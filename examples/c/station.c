@@ -39,50 +39,38 @@ static source sources[SOURCES] = {{.number = 1}, {.number = 2}, {.number = 900}}
 /* Stands in for the page of flash memory that keeps the seed, and for the copy of it in memory that calls work on. */
 static uint8_t flash[SEED] = "a seed from the workshop, other bytes for each digitiser";
 
+/* What a refusal says. */
+static const struct {
+    uint32_t number;
+    const char *text;
+} reasons[] = {
+    {FORTUNA_BAD_SOURCE, "no such source"},
+    {FORTUNA_BAD_POOL, "no such pool"},
+    {FORTUNA_BAD_DATA, "no data, or more than 32 bytes"},
+    {FORTUNA_REQUEST_TOO_LONG, "more than 1,048,576 bytes asked for"},
+    {FORTUNA_BAD_SEED, "a seed that is not 64 bytes"},
+    {FORTUNA_TOO_LONG, "a message above 2^61 - 65 bytes"},
+    {FORTUNA_SLOT_RANGE, "a bound outside 1 to 2^32, or a list that is too long or repeats a number"},
+    {FORTUNA_TRY_RANGE, "tries outside 1 to 64"},
+    {FORTUNA_BLANK_SEED, "a blank seed: 64 equal bytes"},
+    {FORTUNA_BAD_QUOTAS, "a list above 64 quotas, with a repeated source, or with more spent than allowed"},
+    {FORTUNA_NOT_LISTED, "a source with no quota"},
+    {FORTUNA_OVER_ALLOWANCE, "more than the source's allowance"},
+    {FORTUNA_MALFORMED, "a malformed state"},
+    {FORTUNA_POOL_FULL, "a full pool"},
+    {FORTUNA_UNSEEDED, "no seed and too little noise"},
+    {FORTUNA_COUNTER_SPENT, "the counter is spent"},
+    {FORTUNA_NONE_DRAWN, "no try gave a value"},
+    {FORTUNA_CUTOFF_RANGE, "a cutoff outside 2 to 512"},
+    {FORTUNA_MALFORMED_HEALTH, "a malformed test state"},
+};
+
 static const char *reason(uint32_t number)
 {
-    switch (number) {
-    case FORTUNA_BAD_SOURCE:
-        return "no such source";
-    case FORTUNA_BAD_POOL:
-        return "no such pool";
-    case FORTUNA_BAD_DATA:
-        return "no data, or more than 32 bytes";
-    case FORTUNA_REQUEST_TOO_LONG:
-        return "more than 1,048,576 bytes asked for";
-    case FORTUNA_BAD_SEED:
-        return "a seed that is not 64 bytes";
-    case FORTUNA_TOO_LONG:
-        return "a message above 2^61 - 65 bytes";
-    case FORTUNA_SLOT_RANGE:
-        return "a bound outside 1 to 2^32, or a list that is too long or repeats a number";
-    case FORTUNA_TRY_RANGE:
-        return "tries outside 1 to 64";
-    case FORTUNA_BLANK_SEED:
-        return "a blank seed: 64 equal bytes";
-    case FORTUNA_BAD_QUOTAS:
-        return "a list above 64 quotas, with a repeated source, or with more spent than allowed";
-    case FORTUNA_NOT_LISTED:
-        return "a source with no quota";
-    case FORTUNA_OVER_ALLOWANCE:
-        return "more than the source's allowance";
-    case FORTUNA_MALFORMED:
-        return "a malformed state";
-    case FORTUNA_POOL_FULL:
-        return "a full pool";
-    case FORTUNA_UNSEEDED:
-        return "no seed and too little noise";
-    case FORTUNA_COUNTER_SPENT:
-        return "the counter is spent";
-    case FORTUNA_NONE_DRAWN:
-        return "no try gave a value";
-    case FORTUNA_CUTOFF_RANGE:
-        return "a cutoff outside 2 to 512";
-    case FORTUNA_MALFORMED_HEALTH:
-        return "a malformed test state";
-    default:
-        return "a number that these calls don't have";
-    }
+    for (size_t i = 0; i < sizeof reasons / sizeof reasons[0]; i++)
+        if (reasons[i].number == number)
+            return reasons[i].text;
+    return "a number that these calls don't have";
 }
 
 /* For calls that must be taken: a device would go into its fault state here. */

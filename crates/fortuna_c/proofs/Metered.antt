@@ -1,5 +1,5 @@
--- The calls with a list of quotas, a clock and a lent buffer: one walk for all, which differ in the function that they call, and in the width of the buffer's numbers.
--- List and buffer are given on for good.
+-- The calls with a list of quotas, a clock and a lent buffer: one walk for all, which differ in the function that they call, and in the
+-- width of the buffer's numbers. List and buffer are given on for good.
 -- Assumes nothing.
 use mathlib.Core.Path.{_≡_, refl, _∙_, ap}
 use Prim.Native.Nat.{ℕ, _<_, _^_}

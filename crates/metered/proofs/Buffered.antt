@@ -1,5 +1,6 @@
--- The calls with a list, a clock and a lent buffer: one walk for all, which differ in the gated call behind the list's number, and in the width of the buffer's numbers.
--- The row of the list is lent as a `&` to `check` and comes back; the buffer is given on for good to the gated call; the row is lent as a `&mut` to `clear_after` and comes back at the last list.
+-- The calls with a list, a clock and a lent buffer: one walk for all, which differ in the gated call behind the list's number, and in the
+-- width of the buffer's numbers. The row of the list is lent as a `&` to `check` and comes back; the buffer is given on for good to the
+-- gated call; the row is lent as a `&mut` to `clear_after` and comes back at the last list.
 -- Assumes nothing.
 use mathlib.Core.Path.{_≡_, refl, sym, _∙_, ap, subst}
 use Prim.Native.Nat.{ℕ, _<_, _^_}

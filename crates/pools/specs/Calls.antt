@@ -2,13 +2,12 @@
 -- Assumes nothing.
 use mathlib.Core.Bool.{Bool, true, cond}
 use mathlib.Core.List.{List, [], _∷_}
-use Prim.Native.Nat.{ℕ, suc, _+_, _*_}
+use Prim.Native.Nat.{ℕ, suc}
 use lib.ListN.{length}
 use Rattle.laws.specs.Refusals.{guarded}
-use Rattle.generator.specs.Steps.{blockCount}
 use Rattle.pools.specs.Events.{eventBytes}
 use Rattle.pools.specs.State.{fresh, poolAt, counterOf, malformed, due}
-use Rattle.pools.specs.Refusals.{andThen, seedSize, eventInput, eventState, eventNumber, requestInput, outputState, requestNumber, seedInput, writeNumber, updateInput, updateState, updateNumber, drawInput, drawNumber, listInput, shuffleState, shuffleNumber}
+use Rattle.pools.specs.Refusals.{andThen, seedSize, eventInput, eventState, eventNumber, requestInput, requestState, requestNumber, seedInput, writeNumber, updateInput, updateState, updateNumber, drawInput, drawState, drawNumber, listInput, shuffleState, shuffleNumber}
 use Rattle.pools.specs.Effects.{Effect, unchanged, addEvent, randomData, updateSeed, writeSeed}
 use Rattle.pools.specs.Draws.{tries, shuffled, tryAt}
 use Rattle.pools.specs.declared.Fortuna.{Fortuna}
@@ -52,10 +51,10 @@ inputNumber (shuffle clock list) = listInput list
 -- its state numbers (21 to 24)
 unfoldable pub stateNumber : Fortuna → Call → ℕ
 stateNumber s (event source pool content) = eventState (malformed s) (poolAt s pool .length) (length content)
-stateNumber s (request clock buffer) = outputState (malformed s) (counterOf s) (due s clock) (blockCount (length buffer) + 2)
+stateNumber s (request clock buffer) = requestState (malformed s) (counterOf s) (due s clock) (length buffer)
 stateNumber s (update clock seed) = updateState (malformed s) (counterOf s) (due s clock)
-stateNumber s (write clock seed) = outputState (malformed s) (counterOf s) (due s clock) (blockCount seedSize + 2)
-stateNumber s (draw clock n d) = outputState (malformed s) (counterOf s) (due s clock) (3 * d)
+stateNumber s (write clock seed) = requestState (malformed s) (counterOf s) (due s clock) seedSize
+stateNumber s (draw clock n d) = drawState (malformed s) (counterOf s) (due s clock) d
 stateNumber s (shuffle clock list) = shuffleState (malformed s) (counterOf s) (due s clock) (length list)
 
 -- 0, or the number that refuses the call before it does anything
@@ -127,6 +126,3 @@ stateFrom f place s (c ∷ cs) = stateFrom f (suc place) (f place s c .effect .n
 -- from the fresh state
 unfoldable pub run : List Call → List (Outcome Fortuna)
 run calls = runFrom (λ place. step) 0 fresh calls
-
-unfoldable pub stateAfter : List Call → Fortuna
-stateAfter calls = stateFrom (λ place. step) 0 fresh calls

@@ -58,12 +58,16 @@ eventNumber malformed size source pool n = andThen (eventInput source pool n) (e
 unfoldable pub requestInput : ℕ → ℕ
 requestInput n = refuse (ltb maxRequest n) 14 0
 
--- b blocks, for requests and seed writes
+-- b blocks, for requests, draws and shuffles
 unfoldable pub outputState : Bool → ℕ → Bool → ℕ → ℕ
 outputState malformed c due b = refuse malformed 21 (refuse (unseeded c due) 23 (refuse (spent c due b) 24 0))
 
+-- a request's blocks, and two more for the new key; a seed write is a request of 64 bytes
+abbrev pub requestState : Bool → ℕ → Bool → ℕ → ℕ
+requestState malformed c due n = outputState malformed c due (blockCount n + 2)
+
 unfoldable pub requestNumber : Bool → ℕ → Bool → ℕ → ℕ
-requestNumber malformed c due n = andThen (requestInput n) (outputState malformed c due (blockCount n + 2))
+requestNumber malformed c due n = andThen (requestInput n) (requestState malformed c due n)
 
 -- ---- seed calls on the lent bytes: a write asks for 64 bytes, an update reseeds before
 
@@ -79,7 +83,7 @@ unfoldable pub updateInput : List ℕ → ℕ
 updateInput seed = andThen (seedInput seed) (refuse (blank seed) 36 0)
 
 unfoldable pub writeNumber : Bool → ℕ → Bool → List ℕ → ℕ
-writeNumber malformed c due seed = andThen (seedInput seed) (outputState malformed c due (blockCount seedSize + 2))
+writeNumber malformed c due seed = andThen (seedInput seed) (requestState malformed c due seedSize)
 
 unfoldable pub updateState : Bool → ℕ → Bool → ℕ
 updateState malformed c due = refuse malformed 21 (refuse (spent c due 7) 24 0)
@@ -92,8 +96,12 @@ updateNumber malformed c due seed = andThen (updateInput seed) (updateState malf
 unfoldable pub drawInput : ℕ → ℕ → ℕ
 drawInput n d = refuse (eqb n 0 || ltb maxBelow n) 31 (refuse (eqb d 0 || ltb maxTries d) 32 0)
 
+-- three blocks for each try
+abbrev pub drawState : Bool → ℕ → Bool → ℕ → ℕ
+drawState malformed c due d = outputState malformed c due (3 * d)
+
 unfoldable pub drawNumber : Bool → ℕ → Bool → ℕ → ℕ → ℕ
-drawNumber malformed c due n d = andThen (drawInput n d) (outputState malformed c due (3 * d))
+drawNumber malformed c due n d = andThen (drawInput n d) (drawState malformed c due d)
 
 unfoldable pub listInput : List ℕ → ℕ
 listInput list = refuse (ltb maxList (length list) || hasRepeat list) 31 0

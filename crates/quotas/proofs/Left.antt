@@ -1,25 +1,26 @@
 -- What a call leaves of its list.
 -- Assumes nothing.
-use mathlib.Core.Path.{_≡_, refl, ap, _∙_}
+use mathlib.Core.Path.{_≡_, refl, sym, ap, _∙_}
 use mathlib.Core.Logic.{_≢_}
-use mathlib.Core.Bool.{false, _||_}
+use mathlib.Core.Bool.{true, false, _||_, true≢false}
 use mathlib.Core.List.{List, [], _∷_, map}
 use Prim.Native.Nat.{ℕ, zero, suc, _+_, _<_}
 use native.Mathlib.Nat.{not-suc-le-zero, le-of-suc-le-suc}
 use lib.Dec.{eqb, ltb}
 use lib.ListN.{length, length-map}
-use borrow.Author.Tests.{lt-ltb, ne-eqb}
-use Rattle.laws.proofs.Cases.{neither}
+use borrow.Author.Tests.{lt-ltb, eqb-true, eq-eqb, ne-eqb}
+use Rattle.laws.proofs.Cases.{by-test, neither}
 use Rattle.pools.specs.declared.Fortuna.{Fortuna}
 use Rattle.pools.specs.Events.{headerLength, gain}
 use Rattle.pools.specs.Effects.{unchanged}
-use Rattle.pools.specs.Calls.{Call, event, callEffect, callFound, effectOf, Outcome, outcome}
+use Rattle.pools.specs.Calls.{Call, event, request, update, write, draw, shuffle, callEffect, callFound, effectOf, Outcome, outcome}
 use Rattle.pools.proofs.Chains.{then-nothing}
 use Rattle.pools.proofs.Outcomes.{outcome-refused}
 use Rattle.quotas.specs.declared.Quota.{Quota}
 use Rattle.quotas.specs.Records.{maxQuotas, repeats, overspent, malformedQuotas, unspent, charged, cleared}
 use Rattle.quotas.specs.Entries.{Quotas, within, Entry, taking, entryNumber, entryStep, chargedFor, quotasLeft}
 use Rattle.quotas.specs.Left.{leftBy, recordAt, LeftLaw}
+use Rattle.quotas.specs.Runs.{isEventOf}
 use Rattle.quotas.proofs.Lists.{addedTo, charged-each}
 use Rattle.quotas.proofs.Runs.{event-allowed}
 
@@ -73,6 +74,21 @@ pub passed-alone : (rs : List Quota) → malformedQuotas rs ≡ false → repeat
 unfolding malformedQuotas
 passed-alone rs h = neither (ltb maxQuotas (length rs)) (repeats rs) (neither (ltb maxQuotas (length rs) || repeats rs) (overspent rs) h .0) .1
 
+-- a call that is no event charges nothing
+free : (c : Call) (rs : List Quota) → ((source : ℕ) → isEventOf source c ≡ false) → chargedFor c rs ≡ rs
+unfolding isEventOf chargedFor
+free (event source pool content) rs none = absurd (true≢false (sym (eq-eqb source source refl) ∙ none source))
+free (request clock buffer) rs none = refl
+free (update clock seed) rs none = refl
+free (write clock seed) rs none = refl
+free (draw clock n d) rs none = refl
+free (shuffle clock list) rs none = refl
+
+left-unless-event : (c : Call) (rs : List Quota) (o : Outcome Fortuna) → ((source : ℕ) → isEventOf source c ≡ false)
+    → o .effect .emptied ≡ 0 → quotasLeft c rs o ≡ rs
+left-unless-event c rs o none q =
+    by-test (eqb (o .number) 0) _ (λ e. left-done c rs o q (eqb-true _ 0 e) ∙ free c rs none) (λ e. left-not-done c rs o q e)
+
 -- ---- the law
 
 module _ (s : Fortuna) (rs : List Quota) where
@@ -88,6 +104,11 @@ module _ (s : Fortuna) (rs : List Quota) where
       → entryStep s (taking (within rs) c) .effect .emptied ≡ 0 → leftBy s rs c ≡ rs
   unfolding leftBy
   left-none-drawn c n q = left-not-done c rs _ q (ap (λ (k : ℕ). eqb k 0) n)
+
+  left-others : (c : Call) → ((source : ℕ) → isEventOf source c ≡ false)
+      → entryStep s (taking (within rs) c) .effect .emptied ≡ 0 → leftBy s rs c ≡ rs
+  unfolding leftBy
+  left-others c none q = left-unless-event c rs _ none q
 
   module _ (source pool : ℕ) (content : List ℕ) (accepted : entryNumber s (taking (within rs) (event source pool content)) ≡ 0) where
     pub left-charged : leftBy s rs (event source pool content) ≡ charged rs source (gain (length content))
@@ -105,4 +126,4 @@ module _ (s : Fortuna) (rs : List Quota) where
 
   pub left-law : LeftLaw s rs
   unfolding Each
-  left-law = record { refused = left-refused; reseeded = left-after; none-drawn = left-none-drawn; event = left-event }
+  left-law = record { refused = left-refused; reseeded = left-after; none-drawn = left-none-drawn; event = left-event; others = left-others }

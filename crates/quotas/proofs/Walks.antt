@@ -339,7 +339,7 @@ pub Checked : List Quota → ℕ → ℕ → Type 0
 Checked rs i bound = ((bound ≡ 0) × (malformedQuotas rs ≡ true)) ⊎ Clean rs i bound
 
 pub check-start : (rs : List Quota) (m : ℕ) → m ≡ firstBound (length rs) → Checked rs 0 m
-unfolding firstBound Checked
+unfolding firstBound maxQuotas Checked
 check-start rs m e =
     by-test (ltb 64 (length rs)) _
     (λ t. inl (e ∙ rw t, too-long rs (ltb-true 64 (length rs) t)))

@@ -7,7 +7,7 @@ use lib.Dec.{eqb, leb, ltb}
 use Rattle.laws.specs.Refusals.{refuse}
 use Rattle.quotas.specs.declared.Quota.{Quota}
 use Rattle.quotas.specs.declared.Verdict.{Verdict}
-use Rattle.quotas.specs.Records.{isListed, quotaOf, chargedBy, charged, cleared}
+use Rattle.quotas.specs.Records.{maxQuotas, isListed, quotaOf, chargedBy, charged, cleared}
 
 -- a number that comes before 38 and 39: an event's input numbers, and 37
 unfoldable pub comesFirst : ℕ → Bool
@@ -44,7 +44,7 @@ unlistedOf number = cond (comesFirst number) number 38
 
 -- before the first record: 0 for more than 64 records
 unfoldable pub firstBound : ℕ → ℕ
-firstBound n = cond (ltb 64 n) 0 1
+firstBound n = cond (ltb maxQuotas n) 0 1
 
 -- where the search for the source of the record at i starts: no record before i has a source above all so far
 unfoldable pub startAt : ℕ → ℕ → ℕ → ℕ

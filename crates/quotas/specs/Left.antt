@@ -1,7 +1,7 @@
 -- What a list changes of a call, and what a call leaves of its list (02 (x)), in every state and with every list.
 -- Assumes nothing.
 use mathlib.Core.Path.{_≡_}
-use mathlib.Core.Bool.{cond}
+use mathlib.Core.Bool.{false, cond}
 use mathlib.Core.Logic.{_≢_}
 use mathlib.Core.List.{List, [], _∷_}
 use Prim.Native.Nat.{ℕ, _+_, _<_}
@@ -14,6 +14,7 @@ use Rattle.pools.specs.Promises.{callNumbers}
 use Rattle.quotas.specs.declared.Quota.{Quota}
 use Rattle.quotas.specs.Records.{noRecord}
 use Rattle.quotas.specs.Entries.{Quotas, without, within, taking, entryNumber, entryStep, quotasLeft}
+use Rattle.quotas.specs.Runs.{isEventOf}
 
 -- a call without a list is as before
 abbrev pub AsBefore : Type 0
@@ -68,3 +69,7 @@ pub record LeftLaw (s : Fortuna) (rs : List Quota) : Type 0 where
         allowance = recordAt rs i .allowance;
         spent = recordAt rs i .spent + cond (eqb (recordAt rs i .source) source) (3 + length content) 0;
       })
+  -- a call that is no event and made no pool reseed changes no record
+  pub others :
+      (c : Call) → ((source : ℕ) → isEventOf source c ≡ false) → entryStep s (taking (within rs) c) .effect .emptied ≡ 0 →
+      leftBy s rs c ≡ rs

@@ -5,6 +5,9 @@ ghost use Rattle.quotas.specs.Records.{placeFrom, quotasNumber, chargedB
 ghost use Rattle.quotas.specs.Charges.{comesFirst, verdictOf, unlistedOf, chargeNumber, chargeList, clearedAfter};
 ghost use Rattle.quotas.specs.Charges.{firstBound, startAt, boundAfter, faultOf};
 
+// The most records of a list.
+const MAX_QUOTAS: usize = 64;
+
 #[repr(C)]
 pub struct Quota {
     pub source: u32,
@@ -150,11 +153,11 @@ pub fn charge(list: &mut [Quota], source: u32, cost: u32, number: u32) -> u32
 // A check keeps one number as it goes along the list, the bound: 0 once a fault is found, else 1 more than the least source that is
 // above all sources so far. A source above all before it is new: it needs no search among them.
 
-// The bound before the first record: 0 where there are more than 64.
+// The bound before the first record: 0 where there are too many.
 fn first_bound(n: usize) -> u64
     ensures { λ r. ⌜ r ≡ firstBound n ⌝ }
 {
-    if 64 < n { 0 } else { 1 }
+    if MAX_QUOTAS < n { 0 } else { 1 }
 }
 
 // Where the search for the source of the record at i starts: at i where the source is above all before it, or a fault is known, else at 0.

@@ -43,7 +43,8 @@ draw-moves : (clock n d : ℕ) (b : Reference) → Moved b (ltb 0 d && dueAt b c
 draw-moves clock n zero b = unfold tries unchanged in reseed-moves b clock false
 draw-moves clock n (suc d) b = rw (lt-ltb 0 (suc d) (omega arith)) (draw-first clock n d b .0)
 
-shuffle-moves : (clock : ℕ) (list : List ℕ) (b : Reference) → Moved b (ltb 1 (length list) && dueAt b clock) clock (shuffled (referenceTry clock) list b .effect .next)
+shuffle-moves : (clock : ℕ) (list : List ℕ) (b : Reference)
+    → Moved b (ltb 1 (length list) && dueAt b clock) clock (shuffled (referenceTry clock) list b .effect .next)
 shuffle-moves clock list b =
     by-test (ltb 1 (length list)) _
     (λ t. rw t (shuffle-first clock list b (ltb-true 1 (length list) t) .0))
@@ -71,7 +72,8 @@ draw-emptied : (clock n d : ℕ) (b : Reference) → ltb 0 (tries (referenceTry 
 draw-emptied clock n zero b = unfold tries unchanged in refl
 draw-emptied clock n (suc d) b = rw (lt-ltb 0 (suc d) (omega arith), draw-first clock n d b .1) (count-due b clock)
 
-shuffle-emptied : (clock : ℕ) (list : List ℕ) (b : Reference) → ltb 0 (shuffled (referenceTry clock) list b .effect .emptied) ≡ (ltb 1 (length list) && dueAt b clock)
+shuffle-emptied : (clock : ℕ) (list : List ℕ) (b : Reference)
+    → ltb 0 (shuffled (referenceTry clock) list b .effect .emptied) ≡ (ltb 1 (length list) && dueAt b clock)
 shuffle-emptied clock list b =
     by-test (ltb 1 (length list)) _
     (λ t. rw (t, shuffle-first clock list b (ltb-true 1 (length list) t) .1) (count-due b clock))

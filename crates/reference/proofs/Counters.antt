@@ -80,7 +80,8 @@ random-data-rises w n = counters-rise (blockCount n + 2) (w .count) (omega arith
 RisesTo : ℕ → Effect Reference → Type 0
 RisesTo lo x = Rising (x .next .generator .count) lo (x .trace)
 
-outcome-rises : (n : ℕ) (buffer : List ℕ) (b : Reference) (x : Effect Reference) → RisesTo (b .generator .count) x → RisesTo (b .generator .count) (effectOf n buffer b x)
+outcome-rises : (n : ℕ) (buffer : List ℕ) (b : Reference) (x : Effect Reference) → RisesTo (b .generator .count) x
+    → RisesTo (b .generator .count) (effectOf n buffer b x)
 unfolding effectOf
 outcome-rises n buffer b x r = go (eqb n 0)
   where
@@ -115,7 +116,8 @@ unfolding referenceStep outcome
 step-rises place b c = outcome-rises _ (inputBuffer (c .call)) b _ (effect-rises place b (c .call))
 
 run-rises : (calls : List Entry) (place : ℕ) (b : Reference) → Sound b
-    → (hi : ℕ) × (hi ≤ maxCounter) × Rising hi (b .generator .count) (joined (λ (o : Outcome Reference). o .effect .trace) (runFrom referenceStep place b calls))
+    → (hi : ℕ) × (hi ≤ maxCounter)
+    × Rising hi (b .generator .count) (joined (λ (o : Outcome Reference). o .effect .trace) (runFrom referenceStep place b calls))
 unfolding runFrom joined RisesTo
 run-rises [] place b s = (b .generator .count, s .counts, top (b .generator .count) (omega arith))
 run-rises (c ∷ calls) place b s =

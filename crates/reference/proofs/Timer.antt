@@ -23,7 +23,7 @@ use Rattle.reference.specs.Runs.{stateAfter}
 use Rattle.pools.proofs.EachTry.{Kept, Begun, begun-tries, begun-shuffled, idle-shuffle}
 use Rattle.pools.proofs.OneReseed.{quiet-after, first-try, first-shuffled}
 use Rattle.reference.specs.Agreement.{concrete}
-use Rattle.reference.specs.Timer.{reseedsAfter, requests, Later, ElapsedLaw, TimerStep}
+use Rattle.reference.specs.Timer.{reseedsAfter, requests, Later, ElapsedLaw, ReseedTold, TimerStep}
 use Rattle.reference.specs.Provenance.{dueFor}
 use Rattle.reference.proofs.Schedule.{used-some}
 use Rattle.reference.proofs.Advances.{reseeds-after}
@@ -238,6 +238,21 @@ due-after : (calls : List Entry) (clock : ℕ)
     ≡ isDue (poolAt (stateAfter calls) 0 .length) (ltb 0 (reseedsAfter calls)) (stateAfter calls .«last_reseed») clock
 unfolding due
 due-after calls clock = ap (λ (made : Bool). isDue (poolAt (stateAfter calls) 0 .length) made (stateAfter calls .«last_reseed») clock) (reseeded-after calls)
+
+pub reseed-told : ReseedTold
+reseed-told s c = (says, holds)
+  where
+    Told : Type 0
+    Told = (entryNumber s c ≡ 0) × (requests (c .call) ≡ true) × (due s (readingOf (c .call)) ≡ true)
+
+    says : 0 < entryStep s c .effect .emptied → Told
+    says h =
+        let p = both (eqb (entryNumber s c) 0) (dueFor s (c .call)) (sym (step-emptied s c) ∙ lt-ltb 0 _ h) in
+        let k = due-parts s (c .call) (p .1) in
+        (eqb-true _ 0 (p .0), k .0, k .1)
+
+    holds : Told → 0 < entryStep s c .effect .emptied
+    holds (n, k, d) = ltb-true 0 _ (step-emptied s c ∙ rw (n, due-whole s (c .call) k d))
 
 pub timer-step : (calls : List Entry) (c : Entry) → TimerStep calls c
 timer-step calls c = record { reseeds = (says, holds); mark = step-mark s c }

@@ -134,7 +134,8 @@ ChargedRow =
     × (leftBy fresh rs (request 0 []) ≡ rs)
     × (leftBy (seededState 1) rs (request 0 []) ≡ rs)
 
--- a pool reseed leaves nothing spent, whatever call makes it; sources and allowances stay. A list that 37 refuses stops the reseed
+-- a pool reseed by a request, an update or a write leaves nothing spent (`LeftLaw` has every call); sources and allowances stay. A list
+-- that 37 refuses stops the reseed
 abbrev pub ClearedRow : Type 0
 ClearedRow =
     let due = withFirstPool fresh (wholeBlocks 64) in

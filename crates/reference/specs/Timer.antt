@@ -9,9 +9,9 @@ use lib.Dec.{ltb}
 use lib.ListN.{length}
 use Rattle.pools.specs.declared.Fortuna.{Fortuna}
 use Rattle.pools.specs.Schedule.{elapsed}
-use Rattle.pools.specs.State.{poolAt}
+use Rattle.pools.specs.State.{poolAt, due}
 use Rattle.pools.specs.Calls.{Call, event, request, update, write, draw, shuffle, readingOf, Outcome}
-use Rattle.quotas.specs.Entries.{Entry, entryStep}
+use Rattle.quotas.specs.Entries.{Entry, entryNumber, entryStep}
 use Rattle.reference.specs.Runs.{run, stateAfter}
 
 -- the pool reseeds made in a run: the calls that emptied a pool
@@ -38,6 +38,13 @@ Later mark e reading = (e < 2 ^ 32) × ((mark + e) % 2 ^ 32 ≡ reading % 2 ^ 32
 -- elapsed is that e
 abbrev pub ElapsedLaw : Type 0
 ElapsedLaw = (reading mark : ℕ) → Later mark (elapsed reading mark) reading
+
+-- what tells a pool reseed, in every state and with every list: a call empties pools exactly where it is not refused, makes a request
+-- and the state has a pool reseed due
+abbrev pub ReseedTold : Type 0
+ReseedTold =
+    (s : Fortuna) (c : Entry) →
+    (0 < entryStep s c .effect .emptied) ↔ ((entryNumber s c ≡ 0) × (requests (c .call) ≡ true) × (due s (readingOf (c .call)) ≡ true))
 
 -- the call c after these
 pub record TimerStep (calls : List Entry) (c : Entry) : Type 0 where

@@ -394,7 +394,8 @@ impl Fortuna {
 /// An accepted event adds 3 and its data's length to what its source has spent. A call that made a pool reseed, which
 /// is one that emptied pools, sets all spent to 0, `NoneDrawn` included. Nothing else changes the list. Lend every call
 /// on the state the list that the last one left: then no source brings more than its allowance from one pool reseed to
-/// the next. A call without the list neither looks at it nor clears it.
+/// the next. A call without the list neither looks at it nor clears it. The list is not stored: after a power-up begin
+/// with nothing spent. The header says how to choose allowances: with too small ones no pool reseed comes due any more.
 impl Fortuna {
     /// `NotListed`: the source has no quota. `OverAllowance`: the event would bring the source above its allowance.
     pub fn metered_event(

@@ -1,5 +1,7 @@
--- `quotas::charge` meets its contract: a walk of its MIR, by hand. The borrow of the list is opened once. The row is lent as a `&` to `find` for a lifetime that is made for the call, and comes back. Where the source is listed, a copy of its record goes to `judge`, and the record that `judge` returned is put in its place.
--- All that the proof knows of `find`, `judge` and `unlisted` is that each meets its contract. Its script was written by walkgen.py, which counts the positions.
+-- `quotas::charge` meets its contract: a walk of its MIR, by hand. The borrow of the list is opened once. The row is lent as a `&` to
+-- `find` for a lifetime that is made for the call, and comes back. Where the source is listed, a copy of its record goes to `judge`, and
+-- the record that `judge` returned is put in its place. All that the proof knows of `find`, `judge` and `unlisted` is that each meets its
+-- contract.
 -- Assumes nothing.
 use mathlib.Core.Path.{_≡_, refl, sym, ap, subst}
 use Prim.Native.Nat.{ℕ, _*_, _<_, _^_}

@@ -1,5 +1,6 @@
--- `quotas::check` meets its contract: a walk of its MIR, by hand. A turn looks into the slice for one record and shuts it again, asks `start_at` where the search starts, passes a copy of the `&` to `find`, and hands the bound so far, the record and the place to `bound_after`.
--- The loop's invariant: what is known of the first i records by the bound. Its measure is what is left of the length. Its script was written by walkgen.py, which counts the positions.
+-- `quotas::check` meets its contract: a walk of its MIR, by hand. A turn looks into the slice for one record and shuts it again, asks
+-- `start_at` where the search starts, passes a copy of the `&` to `find`, and hands the bound so far, the record and the place to
+-- `bound_after`. The loop's invariant: what is known of the first i records by the bound. Its measure is what is left of the length.
 -- Assumes nothing.
 use mathlib.Core.Path.{_≡_, refl, sym, ap}
 use Prim.Native.Nat.{ℕ, _+_, _-_, _*_, _≤_, _<_, _^_, zero-le}

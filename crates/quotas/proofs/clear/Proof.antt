@@ -1,5 +1,7 @@
--- `quotas::clear` meets its contract: a walk of its MIR, by hand. The borrow is opened once, before the loop, and closed once, after it. A turn takes one record out of the row, hands a copy of it to `unspent`, and puts what `unspent` returned in its place.
--- The loop's invariant: the first i records are cleared. Its measure is what is left of the length. All that the proof knows of `unspent` is that it meets its contract.
+-- `quotas::clear` meets its contract: a walk of its MIR, by hand. The borrow is opened once, before the loop, and closed once, after it. A
+-- turn takes one record out of the row, hands a copy of it to `unspent`, and puts what `unspent` returned in its place. The loop's
+-- invariant: the first i records are cleared. Its measure is what is left of the length. All that the proof knows of `unspent` is that it
+-- meets its contract.
 -- Assumes nothing.
 use mathlib.Core.Path.{_≡_, refl, sym, _∙_, ap, subst}
 use Prim.Native.Nat.{ℕ, _+_, _-_, _*_, _≤_, _<_, _^_, zero-le}

@@ -1,5 +1,6 @@
--- `quotas::clear_after` meets its contract: a walk of its MIR, by hand. The borrow is opened once. Where the number is 0 the row is lent as a `&mut` to `clear`, and comes back at the last list. Both arms go on to the same end.
--- All that the proof knows of `clear` is that it meets its contract. Its script was written by walkgen.py, which counts the positions.
+-- `quotas::clear_after` meets its contract: a walk of its MIR, by hand. The borrow is opened once. Where the number is 0 the row is lent as
+-- a `&mut` to `clear`, and comes back at the last list. Both arms go on to the same end. All that the proof knows of `clear` is that it
+-- meets its contract.
 -- Assumes nothing.
 use mathlib.Core.Path.{_≡_, refl, sym, _∙_, ap, subst}
 use Prim.Native.Nat.{ℕ, _<_, _^_}

@@ -1,5 +1,7 @@
--- `quotas::find` meets its contract: a walk of its MIR, by hand. The slice is looked into once, before the loop; a turn takes one record out of the row, copies it and puts it back; the borrow is shut at each of the two returns.
--- The loop's invariant: the place is that of the source in the records from i on, i further; `from` may be past the end, so i need not be in the list. Its measure is what is left of the length.
+-- `quotas::find` meets its contract: a walk of its MIR, by hand. The slice is looked into once, before the loop; a turn takes one record
+-- out of the row, copies it and puts it back; the borrow is shut at each of the two returns. The loop's invariant: the place is that of the
+-- source in the records from i on, i further; `from` may be past the end, so i need not be in the list. Its measure is what is left of the
+-- length.
 -- Assumes nothing.
 use mathlib.Core.Path.{_≡_, refl, sym}
 use Prim.Native.Nat.{ℕ, _+_, _-_, _*_, _<_, _^_}

@@ -1,4 +1,5 @@
--- `fortuna_c::metered_calls::fortuna_metered_event` meets its contract: a walk of its MIR, by hand. The list is given on for good, and so is the state, to `put_pool`.
+-- `fortuna_c::metered_calls::fortuna_metered_event` meets its contract: a walk of its MIR, by hand. The list is given on for good, and so
+-- is the state, to `put_pool`.
 -- Assumes nothing.
 use mathlib.Core.Path.{_≡_, refl, _∙_, ap}
 use Prim.Native.Nat.{ℕ, _<_, _^_}

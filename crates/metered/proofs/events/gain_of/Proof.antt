@@ -1,5 +1,6 @@
--- `metered::events::gain_of` meets its contract: a walk of its MIR, by hand. The row of the list is lent as a `&` to `check` and comes back; the event is made without the list; the row is lent as a `&mut` to `charge` and comes back at the last list; `settled` makes the outcome that stands.
--- All that the proof knows of the four is that each meets its contract. Its script was written by walkgen.py, which counts the positions.
+-- `metered::events::gain_of` meets its contract: a walk of its MIR, by hand. The row of the list is lent as a `&` to `check` and comes
+-- back; the event is made without the list; the row is lent as a `&mut` to `charge` and comes back at the last list; `settled` makes the
+-- outcome that stands. All that the proof knows of the four is that each meets its contract.
 -- Assumes nothing.
 use mathlib.Core.Path.{_≡_, refl, sym, ap, subst}
 use Prim.Native.Nat.{ℕ, _<_, _^_}
