@@ -63,7 +63,7 @@
 
    Numbers returned: FORTUNA_DONE, or the number of a refusal, the first in the order of the list below where more
    than one applies. After a refusal buffers, quotas and state are as before; pools emptied are 0. FORTUNA_NONE_DRAWN
-   differs: the call's tries were made, so that the state has advanced. If that emptied pools, quotas have nothing spent;
+   differs: the call's tries were made, so that the state has advanced. If that emptied pools, quotas are unspent;
    the numbers of a shuffle are as before. No call is refused for another reason. A sample that fails a health test is
    no refusal: the number is FORTUNA_DONE, and fortuna_health_passed tells. */
 #ifndef FORTUNA_H
