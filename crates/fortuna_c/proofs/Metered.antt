@@ -176,6 +176,9 @@ module _ (w : Width) (make : ℕ → List ℕ → Call) (key : Name) {M : Type 1
   answer-said : (r : Outcome) (a : FortunaAnswer) → ent 𝓤 (ensured 𝓤 H A answer-of.ended (answer-of.clauses 𝓤 H A mem run) tt (r, tt) tt a) (fact 𝓤 (Tells r a))
   answer-said r a = exE 𝓤 _ (λ ws. snd∗ 𝓤 (sem 𝓤 H A (lasts answer-of.ended tt (r, tt) ws)) (fact 𝓤 (Tells r a)))
 
+  all : (r : Outcome) (a : FortunaAnswer) (zs : List Quota) (xs : List ℕ) → Meters r zs xs → Tells r a → MeteredLeavesBytes h ys (make i ws) a (r .next) zs xs
+  all r a zs xs e₁ e₂ = (((e₂ .0 ∙ e₁ .0 .0 .0, e₁ .0 .0 .2), e₂ .1 ∙ e₁ .0 .0 .1, e₁ .0 .1), e₁ .1)
+
   module _ (C : Calls 𝓤 H) (Λ : Loops 𝓤 H) (fm : FmC 𝓤 H (W .laws) C) (known-serve : Triple 𝓤 (C key) (Served w make 𝓤 H A)) (known-answer : Triple 𝓤 (C key-answer) (Answered 𝓤 H A mem run)) where
     walk : ent 𝓤 (onEntry 𝓤 H A (ended w .signature) (κ, (κ₁, (κ₂, tt))) (q, (q₁, (q₂, tt))) x at) (WpFn 𝓤 H C Λ (function w key) (vptr b o ∷ v₁ ∷ vint w32 i ∷ v ∷ []) Post)
     walk =
@@ -206,7 +209,7 @@ module _ (w : Width) (make : ℕ → List ℕ → Call) (key : Name) {M : Type 1
         move ! (4 ∷ 5 ∷ 6 ∷ 7 ∷ []) $ shut ! tt (r .next) (next-is r u₁ is) b o $
         returns ! (look ! 28 refl) $ forget ! 28 refl $ forget ! 26 refl $ forget ! 24 refl $ forget ! 22 refl $ forget ! 20 refl $ forget ! 18 refl $ forget ! 16 refl $ forget ! 14 refl $ forget ! 12 refl $ forget ! 10 refl $ forget ! 8 refl $
         move ! (28 ∷ 29 ∷ []) $ free1 ! $ move ! (26 ∷ 27 ∷ []) $ free1 ! $ move ! (24 ∷ 25 ∷ []) $ free1 ! $ move ! (22 ∷ 23 ∷ []) $ free1 ! $ move ! (20 ∷ 21 ∷ []) $ free1 ! $ move ! (18 ∷ 19 ∷ []) $ free1 ! $ move ! (16 ∷ 17 ∷ []) $ free1 ! $ move ! (14 ∷ 15 ∷ []) $ free1 ! $ move ! (12 ∷ 13 ∷ []) $ free1 ! $ move ! (10 ∷ 11 ∷ []) $ free1 ! $ move ! (8 ∷ 9 ∷ []) $ free1 ! $ free0 ! $
-        keep ! (0 ∷ 1 ∷ 2 ∷ 3 ∷ 6 ∷ 4 ∷ []) $ by ! (exits a (r .next) (zs .1 .0) (zs .1 .1 .1 .0) (((e₂ .0 ∙ e₁ .0 .0 .0, e₁ .0 .0 .2), e₂ .1 ∙ e₁ .0 .0 .1, e₁ .0 .1), e₁ .1) l₁′ l₂′ (LL.owes Y.the-type Y′.the-laws a (LL.owed Y.the-type Y′.the-laws a _ is₂))))))))))))))))))))))))))
+        keep ! (0 ∷ 1 ∷ 2 ∷ 3 ∷ 6 ∷ 4 ∷ []) $ by ! (exits a (r .next) (zs .1 .0) (zs .1 .1 .1 .0) (all r a (zs .1 .0) (zs .1 .1 .1 .0) e₁ e₂) l₁′ l₂′ (LL.owes Y.the-type Y′.the-laws a (LL.owed Y.the-type Y′.the-laws a _ is₂))))))))))))))))))))))))))
 
 module _ (w : Width) (make : ℕ → List ℕ → Call) (key : Name) {M : Type 1} (𝓤 : URA M) (H : Heap 𝓤) (A : Atoms 𝓤) (W : Given 𝓤 H A) (mem : Memory → SProp 𝓤) (run : Routine → Fun 𝓤) where
   walks : (C : Calls 𝓤 H) (Λ : Loops 𝓤 H) → FmC 𝓤 H (W .laws) C → Triple 𝓤 (C key) (Served w make 𝓤 H A) → Triple 𝓤 (C key-answer) (Answered 𝓤 H A mem run) → Walks 𝓤 H A (ended w) (stayed w) (WpFn 𝓤 H C Λ (function w key)) (leaves w make 𝓤)

@@ -119,6 +119,9 @@ module _ {M : Type 1} (𝓤 : URA M) (H : Heap 𝓤) (A : Atoms 𝓤) (W : Given
   abbrev Meters : Gain → List Quota → Type 0
   Meters r zs = MetersGain h ys i p (s .now) r zs
 
+  all : (n : ℕ) (d : Fortuna) (r : Gain) (zs : List Quota) → Meters r zs → d ≡ withPool h (r .place) (r .pool) → n ≡ number (r .answer) → MeteredLeaves h ys (event i p (s .now)) n d zs
+  all n d r zs e₁ e₂ e₃ = ((e₃ ∙ e₁ .0 .0, e₂ ∙ e₁ .0 .3), e₁ .1)
+
   exits : (n : ℕ) (d : Fortuna) (zs : List Quota) → MeteredLeaves h ys (event i p (s .now)) n d zs → length zs ≡ length ys → n < 2 ^ 32 → ent 𝓤 (⋆ 𝓤 H A (‵ (fres γ (T.the-row .coded .code d)) ∷ ‵ (flft κ q) ∷ (‵ (flft κ₁ q₁) ⊛ ‵ (flft κ₂ q₂) ⊛ ‵ ftrue) ∷ ‵ (finally R.the-row γ₁ zs) ∷ ‵ Own ∷ [])) (Post (vint w32 n))
   exits n d zs e l fits =
       qed W (‵ (fres γ (T.the-row .coded .code d)) ∷ ‵ (flft κ q) ∷ (‵ (flft κ₁ q₁) ⊛ ‵ (flft κ₂ q₂) ⊛ ‵ ftrue) ∷ ‵ (finally R.the-row γ₁ zs) ∷ ‵ Own ∷ []) ∵
@@ -191,7 +194,7 @@ module _ {M : Type 1} (𝓤 : URA M) (H : Heap 𝓤) (A : Atoms 𝓤) (W : Given
         rewrite ! 31 (λ (z : Val). ‵ (fat fullShare (tyInt w32) l₀ 0 z)) (ap only (is₃ .0)) refl $
         returns ! (look ! 31 refl) $ forget ! 31 refl $ forget ! 29 refl $ forget ! 27 refl $ forget ! 25 refl $ forget ! 23 refl $ forget ! 21 refl $ forget ! 19 refl $ forget ! 17 refl $ forget ! 15 refl $ forget ! 13 refl $ forget ! 11 refl $ forget ! 9 refl $
         move ! (31 ∷ 32 ∷ []) $ free1 ! $ move ! (29 ∷ 30 ∷ []) $ free1 ! $ move ! (27 ∷ 28 ∷ []) $ free1 ! $ move ! (25 ∷ 26 ∷ []) $ free1 ! $ move ! (23 ∷ 24 ∷ []) $ free1 ! $ move ! (21 ∷ 22 ∷ []) $ free1 ! $ move ! (19 ∷ 20 ∷ []) $ free1 ! $ move ! (17 ∷ 18 ∷ []) $ free1 ! $ move ! (15 ∷ 16 ∷ []) $ free1 ! $ move ! (13 ∷ 14 ∷ []) $ free1 ! $ move ! (11 ∷ 12 ∷ []) $ free1 ! $ move ! (9 ∷ 10 ∷ []) $ free1 ! $ free0 ! $
-        keep ! (2 ∷ 0 ∷ 4 ∷ 5 ∷ 7 ∷ []) $ by ! (exits n (ns .0) (zs .1 .0) ((e₃ ∙ e₁ .0 .0, e₂ ∙ e₁ .0 .3), e₁ .1) l (is₃ .1))))))))))))))))))))))))))))))
+        keep ! (2 ∷ 0 ∷ 4 ∷ 5 ∷ 7 ∷ []) $ by ! (exits n (ns .0) (zs .1 .0) (all n (ns .0) r (zs .1 .0) e₁ e₂ e₃) l (is₃ .1))))))))))))))))))))))))))))))
 
 module _ {M : Type 1} (𝓤 : URA M) (H : Heap 𝓤) (A : Atoms 𝓤) (W : Given 𝓤 H A) (mem : Memory → SProp 𝓤) (run : Routine → Fun 𝓤) where
   walks : (C : Calls 𝓤 H) (Λ : Loops 𝓤 H) → FmC 𝓤 H (W .laws) C → Triple 𝓤 (C key-gain-of) (Gained 𝓤 H A mem run) → Triple 𝓤 (C key-put-pool) (Put 𝓤 H A mem run) → Triple 𝓤 (C key-number-of) (Numbered 𝓤 H A mem run)

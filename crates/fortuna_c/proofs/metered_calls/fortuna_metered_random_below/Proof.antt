@@ -137,6 +137,9 @@ module _ {M : Type 1} (𝓤 : URA M) (H : Heap 𝓤) (A : Atoms 𝓤) (W : Given
   told : (r : Draw) (a : FortunaDraw) → ent 𝓤 (ensured 𝓤 H A draw-of.ended (draw-of.clauses 𝓤 H A mem run) tt (r, tt) tt a) (fact 𝓤 (Tells r a))
   told r a = exE 𝓤 _ (λ ws. snd∗ 𝓤 (sem 𝓤 H A (lasts draw-of.ended tt (r, tt) ws)) (fact 𝓤 (Tells r a)))
 
+  all : (r : Draw) (a : FortunaDraw) (zs : List Quota) → Meters r zs → Tells r a → MeteredLeavesValue h ys (draw i n d) a (r .next) zs
+  all r a zs e₁ e₂ = (((e₂ .0 ∙ e₁ .0 .0, e₁ .0 .3), e₂ .1 ∙ e₁ .0 .1, e₂ .2 ∙ e₁ .0 .2), e₁ .1)
+
   module _ (C : Calls 𝓤 H) (Λ : Loops 𝓤 H) (fm : FmC 𝓤 H (W .laws) C) (known-draw : Triple 𝓤 (C key-random-below) (Drawn 𝓤 H A mem run)) (known-tell : Triple 𝓤 (C key-draw-of) (Told 𝓤 H A mem run)) where
     walk : ent 𝓤 (onEntry 𝓤 H A f.signature (κ, (κ₁, tt)) (q, (q₁, tt)) x at) (WpFn 𝓤 H C Λ code.function (vptr b o ∷ v₁ ∷ vint w32 i ∷ vint w64 n ∷ vint w32 d ∷ []) Post)
     walk =
@@ -165,7 +168,7 @@ module _ {M : Type 1} (𝓤 : URA M) (H : Heap 𝓤) (A : Atoms 𝓤) (W : Given
         move ! (3 ∷ 4 ∷ 5 ∷ 6 ∷ []) $ shut ! tt (r .next) (next-is r u₁ is) b o $
         returns ! (look ! 25 refl) $ forget ! 25 refl $ forget ! 23 refl $ forget ! 21 refl $ forget ! 19 refl $ forget ! 17 refl $ forget ! 15 refl $ forget ! 13 refl $ forget ! 11 refl $ forget ! 9 refl $ forget ! 7 refl $
         move ! (25 ∷ 26 ∷ []) $ free1 ! $ move ! (23 ∷ 24 ∷ []) $ free1 ! $ move ! (21 ∷ 22 ∷ []) $ free1 ! $ move ! (19 ∷ 20 ∷ []) $ free1 ! $ move ! (17 ∷ 18 ∷ []) $ free1 ! $ move ! (15 ∷ 16 ∷ []) $ free1 ! $ move ! (13 ∷ 14 ∷ []) $ free1 ! $ move ! (11 ∷ 12 ∷ []) $ free1 ! $ move ! (9 ∷ 10 ∷ []) $ free1 ! $ move ! (7 ∷ 8 ∷ []) $ free1 ! $ free0 ! $
-        keep ! (0 ∷ 1 ∷ 2 ∷ 3 ∷ 4 ∷ []) $ by ! (exits a (r .next) (zs .1 .0) (((e₂ .0 ∙ e₁ .0 .0, e₁ .0 .3), e₂ .1 ∙ e₁ .0 .1, e₂ .2 ∙ e₁ .0 .2), e₁ .1) l (LL.owes Y.the-type Y′.the-laws a (LL.owed Y.the-type Y′.the-laws a _ is₂))))))))))))))))))))))))
+        keep ! (0 ∷ 1 ∷ 2 ∷ 3 ∷ 4 ∷ []) $ by ! (exits a (r .next) (zs .1 .0) (all r a (zs .1 .0) e₁ e₂) l (LL.owes Y.the-type Y′.the-laws a (LL.owed Y.the-type Y′.the-laws a _ is₂))))))))))))))))))))))))
 
 module _ {M : Type 1} (𝓤 : URA M) (H : Heap 𝓤) (A : Atoms 𝓤) (W : Given 𝓤 H A) (mem : Memory → SProp 𝓤) (run : Routine → Fun 𝓤) where
   walks : (C : Calls 𝓤 H) (Λ : Loops 𝓤 H) → FmC 𝓤 H (W .laws) C → Triple 𝓤 (C key-random-below) (Drawn 𝓤 H A mem run) → Triple 𝓤 (C key-draw-of) (Told 𝓤 H A mem run) → Walks 𝓤 H A f.ended stayed (WpFn 𝓤 H C Λ code.function) (f.clauses 𝓤 H A mem run)
