@@ -14,13 +14,15 @@ use Rattle.laws.proofs.Cases.{split, by-test}
 use Rattle.pools.specs.declared.Fortuna.{Fortuna}
 use Rattle.pools.specs.Events.{gain}
 use Rattle.pools.specs.Refusals.{andThen}
-use Rattle.pools.specs.Calls.{Call, event, request, update, write, draw, shuffle, inputNumber, stateNumber, callNumber, step}
+use Rattle.pools.specs.Calls.{Call, event, request, update, write, draw, shuffle, inputNumber, stateNumber, callNumber, callEffect, step}
 use Rattle.pools.specs.Promises.{callNumbers}
 use Rattle.pools.proofs.Bounds.{call-numbers}
 use Rattle.pools.proofs.Chains.{then-first, then-second, then-cong, then-holds, both-passed, call-chains}
 use Rattle.quotas.specs.Records.{isListed, quotaOf, malformedQuotas, quotasNumber, eventQuotasNumber}
 use Rattle.quotas.specs.Entries.{Quotas, without, within, Entry, taking, listNumber, entryNumber, entryStep}
-use Rattle.quotas.specs.Left.{AsBefore, entryNumbers, EntryNumbersLaw}
+use Rattle.quotas.specs.Left.{AsBefore, ByList, entryNumbers, EntryNumbersLaw}
+use Rattle.pools.specs.Effects.{unchanged}
+use Rattle.pools.proofs.Outcomes.{outcome-refused}
 
 -- an accepted call passes the three checks
 pub entry-passed : (s : Fortuna) (e : Entry) → entryNumber s e ≡ 0
@@ -49,6 +51,26 @@ without-number s c =
 pub as-before : AsBefore
 unfolding entryStep step
 as-before s c = rw (without-number s c)
+
+passed-number : (s : Fortuna) (q : Quotas) (c : Call) → listNumber q c ≡ 0 → entryNumber s (taking q c) ≡ callNumber s c
+unfolding entryNumber
+passed-number s q c h =
+    then-cong (inputNumber c) (andThen (listNumber q c) (stateNumber s c)) (stateNumber s c)
+    (λ _. then-second (listNumber q c) (stateNumber s c) h)
+    ∙ sym (call-chains s c)
+
+refused-number : (s : Fortuna) (q : Quotas) (c : Call) → inputNumber c ≡ 0 → listNumber q c ≢ 0 → entryNumber s (taking q c) ≡ listNumber q c
+unfolding entryNumber
+refused-number s q c i h = then-second (inputNumber c) _ i ∙ then-first (listNumber q c) (stateNumber s c) h
+
+pub by-list : (s : Fortuna) (q : Quotas) (c : Call) → ByList s q c
+by-list s q c =
+    record {
+      passed = λ h. unfold entryStep step in rw (passed-number s q c h);
+      refused = λ i h. unfold entryStep unchanged in
+          let n = refused-number s q c i h in
+          outcome-refused (entryNumber s (taking q c)) _ _ _ s (callEffect s c) (λ e. h (sym n ∙ e)) ∙ rw n;
+    }
 
 -- ---- which numbers there are
 

@@ -1,15 +1,16 @@
 -- What a call leaves of its list.
 -- Assumes nothing.
-use mathlib.Core.Path.{_≡_, refl, sym, ap, _∙_}
+use mathlib.Core.Path.{_≡_, refl, ap, _∙_}
 use mathlib.Core.Logic.{_≢_}
-use mathlib.Core.Bool.{true, false, _||_, true≢false}
+use mathlib.Core.Bool.{false, _||_}
 use mathlib.Core.List.{List, [], _∷_, map}
 use Prim.Native.Nat.{ℕ, zero, suc, _+_, _<_}
 use native.Mathlib.Nat.{not-suc-le-zero, le-of-suc-le-suc}
+use native.Mathlib.Omega.{arith}
 use lib.Dec.{eqb, ltb}
 use lib.ListN.{length, length-map}
-use borrow.Author.Tests.{lt-ltb, eqb-true, eq-eqb, ne-eqb}
-use Rattle.laws.proofs.Cases.{by-test, neither}
+use borrow.Author.Tests.{lt-ltb, ltb-true, ltb-false, eqb-true, eqb-false, ne-eqb}
+use Rattle.laws.proofs.Cases.{by-test, neither, split}
 use Rattle.pools.specs.declared.Fortuna.{Fortuna}
 use Rattle.pools.specs.Events.{headerLength, gain}
 use Rattle.pools.specs.Effects.{unchanged}
@@ -20,8 +21,7 @@ use Rattle.quotas.specs.declared.Quota.{Quota}
 use Rattle.quotas.specs.Records.{maxQuotas, repeats, overspent, malformedQuotas, unspent, charged, cleared}
 use Rattle.quotas.specs.Entries.{Quotas, within, Entry, taking, entryNumber, entryStep, chargedFor, quotasLeft}
 use Rattle.quotas.specs.Left.{leftBy, recordAt, LeftLaw}
-use Rattle.quotas.specs.Runs.{isEventOf}
-use Rattle.quotas.proofs.Lists.{addedTo, charged-each}
+use Rattle.quotas.proofs.Lists.{addedTo, charged-each, charged-formed, cleared-formed}
 use Rattle.quotas.proofs.Runs.{event-allowed}
 
 -- ---- the outcome of a refused call, and of an accepted event
@@ -53,6 +53,23 @@ module _ (c : Call) (rs : List Quota) (o : Outcome Fortuna) where
   unfolding quotasLeft
   left-done q e = rw (q, e)
 
+  left-free : o .effect .emptied ≡ 0 → chargedFor c rs ≡ rs → quotasLeft c rs o ≡ rs
+  unfolding quotasLeft
+  left-free q e = rw (q, e) (split (λ (l : List Quota). l ≡ rs) (eqb (o .number) 0) (λ _. refl) (λ _. refl))
+
+none-below : (n : ℕ) → ltb 0 n ≡ false → n ≡ 0
+none-below n t = let l = ltb-false 0 n t in omega (arith, l)
+
+-- only an event is charged
+free : (c : Call) (rs : List Quota) → ((source pool : ℕ) (content : List ℕ) → c ≢ event source pool content) → chargedFor c rs ≡ rs
+unfolding chargedFor
+free (event source pool content) rs h = absurd (h source pool content refl)
+free (request clock buffer) rs h = refl
+free (update clock seed) rs h = refl
+free (write clock seed) rs h = refl
+free (draw clock n d) rs h = refl
+free (shuffle clock list) rs h = refl
+
 each-at : (f : Quota → Quota) (rs : List Quota) (i : ℕ) → i < length rs → recordAt (map f rs) i ≡ f (recordAt rs i)
 each-at f [] i l = absurd (not-suc-le-zero l)
 each-at f (r ∷ rs) zero l = refl
@@ -74,21 +91,6 @@ pub passed-alone : (rs : List Quota) → malformedQuotas rs ≡ false → repeat
 unfolding malformedQuotas
 passed-alone rs h = neither (ltb maxQuotas (length rs)) (repeats rs) (neither (ltb maxQuotas (length rs) || repeats rs) (overspent rs) h .0) .1
 
--- a call that is no event charges nothing
-free : (c : Call) (rs : List Quota) → ((source : ℕ) → isEventOf source c ≡ false) → chargedFor c rs ≡ rs
-unfolding isEventOf chargedFor
-free (event source pool content) rs none = absurd (true≢false (sym (eq-eqb source source refl) ∙ none source))
-free (request clock buffer) rs none = refl
-free (update clock seed) rs none = refl
-free (write clock seed) rs none = refl
-free (draw clock n d) rs none = refl
-free (shuffle clock list) rs none = refl
-
-left-unless-event : (c : Call) (rs : List Quota) (o : Outcome Fortuna) → ((source : ℕ) → isEventOf source c ≡ false)
-    → o .effect .emptied ≡ 0 → quotasLeft c rs o ≡ rs
-left-unless-event c rs o none q =
-    by-test (eqb (o .number) 0) _ (λ e. left-done c rs o q (eqb-true _ 0 e) ∙ free c rs none) (λ e. left-not-done c rs o q e)
-
 -- ---- the law
 
 module _ (s : Fortuna) (rs : List Quota) where
@@ -105,10 +107,10 @@ module _ (s : Fortuna) (rs : List Quota) where
   unfolding leftBy
   left-none-drawn c n q = left-not-done c rs _ q (ap (λ (k : ℕ). eqb k 0) n)
 
-  left-others : (c : Call) → ((source : ℕ) → isEventOf source c ≡ false)
+  left-others : (c : Call) → ((source pool : ℕ) (content : List ℕ) → c ≢ event source pool content)
       → entryStep s (taking (within rs) c) .effect .emptied ≡ 0 → leftBy s rs c ≡ rs
   unfolding leftBy
-  left-others c none q = left-unless-event c rs _ none q
+  left-others c h q = left-free c rs _ q (free c rs h)
 
   module _ (source pool : ℕ) (content : List ℕ) (accepted : entryNumber s (taking (within rs) (event source pool content)) ≡ 0) where
     pub left-charged : leftBy s rs (event source pool content) ≡ charged rs source (gain (length content))
@@ -124,6 +126,36 @@ module _ (s : Fortuna) (rs : List Quota) where
         let alone = passed-alone rs (event-allowed s rs source pool content (done .0) .formed) in
         each-is (addedTo source (3 + length content)) rs _ (left-charged ∙ charged-each rs source (3 + length content) alone)
 
+  plain-formed : (c : Call) → chargedFor c rs ≡ rs → malformedQuotas rs ≡ false → malformedQuotas (leftBy s rs c) ≡ false
+  unfolding leftBy
+  plain-formed c free h =
+      by-test (ltb 0 (entryStep s (taking (within rs) c) .effect .emptied)) _
+      (λ t. rw (left-reseeded c rs (entryStep s (taking (within rs) c)) (ltb-true 0 _ t)) (cleared-formed rs h))
+      (λ t. rw (left-free c rs (entryStep s (taking (within rs) c)) (none-below _ t) free) h)
+
+  left-formed : (c : Call) → malformedQuotas rs ≡ false → malformedQuotas (leftBy s rs c) ≡ false
+  left-formed (event source pool content) h =
+      let call = event source pool content in
+      by-test (eqb (entryNumber s (taking (within rs) call)) 0) _
+      (λ t.
+      let accepted = eqb-true _ 0 t in
+      let passes = event-allowed s rs source pool content (event-done s (within rs) source pool content accepted .0) in
+      rw (left-charged source pool content accepted) (charged-formed rs source (gain (length content)) passes))
+      (λ t. rw (left-refused call (eqb-false _ 0 t)) h)
+  left-formed (request clock buffer) h = plain-formed (request clock buffer) (unfold chargedFor in refl) h
+  left-formed (update clock seed) h = plain-formed (update clock seed) (unfold chargedFor in refl) h
+  left-formed (write clock seed) h = plain-formed (write clock seed) (unfold chargedFor in refl) h
+  left-formed (draw clock n d) h = plain-formed (draw clock n d) (unfold chargedFor in refl) h
+  left-formed (shuffle clock list) h = plain-formed (shuffle clock list) (unfold chargedFor in refl) h
+
   pub left-law : LeftLaw s rs
   unfolding Each
-  left-law = record { refused = left-refused; reseeded = left-after; none-drawn = left-none-drawn; event = left-event; others = left-others }
+  left-law =
+      record {
+        refused = left-refused;
+        reseeded = left-after;
+        none-drawn = left-none-drawn;
+        others = left-others;
+        event = left-event;
+        formed = left-formed;
+      }

@@ -7,7 +7,7 @@ use Prim.Native.Nat.{ℕ, suc, _+_, _≤_}
 use native.Mathlib.Nat.{add-zero}
 use native.Mathlib.Omega.{arith}
 use lib.Dec.{eqb, ltb}
-use lib.ListN.{length}
+use lib.ListN.{length, length-map}
 use borrow.Author.Tests.{ltb-false, le-ltb, eqb-true, ne-eqb, not-false}
 use Rattle.laws.proofs.Cases.{split, by-test, neither}
 use Rattle.laws.proofs.Refusals.{passed}
@@ -149,6 +149,26 @@ cleared-more r rs = refl
 cleared-none : (x : ℕ) → quotaOf (cleared []) x ≡ unspent (quotaOf [] x)
 unfolding cleared quotaOf placeOf
 cleared-none x = refl
+
+cleared-repeats : (rs : List Quota) → repeats (cleared rs) ≡ repeats rs
+unfolding repeats
+cleared-repeats [] = unfold cleared in refl
+cleared-repeats (r ∷ rs) = rw (cleared-more r rs, cleared-listed rs (r .source), cleared-repeats rs)
+
+cleared-sound : (rs : List Quota) → overspent (cleared rs) ≡ false
+unfolding overspent
+cleared-sound [] = unfold cleared in refl
+cleared-sound (r ∷ rs) = rw (cleared-more r rs, le-ltb (r .allowance) 0 (omega arith), cleared-sound rs)
+
+cleared-long : (rs : List Quota) → length (cleared rs) ≡ length rs
+unfolding cleared
+cleared-long rs = length-map rs unspent
+
+pub cleared-formed : (rs : List Quota) → malformedQuotas rs ≡ false → malformedQuotas (cleared rs) ≡ false
+unfolding malformedQuotas
+cleared-formed rs h =
+    rw (cleared-long rs, cleared-repeats rs, cleared-sound rs)
+    (rw (neither (ltb maxQuotas (length rs) || repeats rs) (overspent rs) h .0))
 
 pub cleared-own : (rs : List Quota) (x : ℕ) → quotaOf (cleared rs) x ≡ unspent (quotaOf rs x)
 cleared-own [] x = cleared-none x

@@ -43,7 +43,7 @@ entryNumber s e = andThen (inputNumber (e .call)) (andThen (listNumber (e .quota
 
 -- ---- what a call gives
 
--- the step of a Fortuna state: as without a list, by another number
+-- the step of a Fortuna state: as without a list, but that `entryNumber` refuses it
 unfoldable pub entryStep : Fortuna → Entry → Outcome Fortuna
 entryStep s e =
     outcome (entryNumber s e) (callFound s (e .call)) (callValue s (e .call)) (inputBuffer (e .call)) s (callEffect s (e .call))

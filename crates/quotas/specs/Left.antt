@@ -9,16 +9,24 @@ use lib.Dec.{eqb}
 use lib.ListN.{length, getD}
 use Rattle.laws.specs.Lists.{countOf}
 use Rattle.pools.specs.declared.Fortuna.{Fortuna}
-use Rattle.pools.specs.Calls.{Call, event, request, update, write, draw, shuffle, step}
+use Rattle.pools.specs.Calls.{Call, event, request, update, write, draw, shuffle, inputBuffer, inputNumber, step}
 use Rattle.pools.specs.Promises.{callNumbers}
 use Rattle.quotas.specs.declared.Quota.{Quota}
-use Rattle.quotas.specs.Records.{noRecord}
-use Rattle.quotas.specs.Entries.{Quotas, without, within, taking, entryNumber, entryStep, quotasLeft}
-use Rattle.quotas.specs.Runs.{isEventOf}
+use Rattle.quotas.specs.Records.{noRecord, malformedQuotas}
+use Rattle.quotas.specs.Entries.{Quotas, without, within, taking, listNumber, entryNumber, entryStep, quotasLeft}
 
 -- a call without a list is as before
 abbrev pub AsBefore : Type 0
 AsBefore = (s : Fortuna) (c : Call) → entryStep s (taking without c) ≡ step s c
+
+pub record ByList (s : Fortuna) (q : Quotas) (c : Call) : Type 0 where
+  -- where the list gives no number, the call is as without one
+  pub passed : listNumber q c ≡ 0 → entryStep s (taking q c) ≡ step s c
+  -- where it gives one and the input none, that number refuses the call: it empties no pool, enciphers nothing, and leaves buffer and state
+  pub refused :
+      inputNumber c ≡ 0 → listNumber q c ≢ 0 →
+      entryStep s (taking q c)
+      ≡ record { number = listNumber q c; value = 0; effect = record { emptied = 0; buffer = inputBuffer c; next = s; trace = [] } }
 
 -- ---- numbers
 
@@ -47,7 +55,7 @@ abbrev pub recordAt : List Quota → ℕ → Quota
 recordAt rs i = getD rs i noRecord
 
 pub record LeftLaw (s : Fortuna) (rs : List Quota) : Type 0 where
-  -- a refused call changes no record
+  -- a call that is refused before it does anything changes no record; 33 comes after tries, and is no such number
   pub refused : (c : Call) → entryNumber s (taking (within rs) c) ≢ 0 → leftBy s rs c ≡ rs
   -- a call that made a pool reseed leaves all spent 0, 33 included; sources and allowances stay
   pub reseeded :
@@ -59,6 +67,10 @@ pub record LeftLaw (s : Fortuna) (rs : List Quota) : Type 0 where
   pub none-drawn :
       (c : Call) → entryStep s (taking (within rs) c) .number ≡ 33 → entryStep s (taking (within rs) c) .effect .emptied ≡ 0 →
       leftBy s rs c ≡ rs
+  -- a call that is no event changes no record unless it makes a pool reseed
+  pub others :
+      (c : Call) → ((source pool : ℕ) (content : List ℕ) → c ≢ event source pool content) →
+      entryStep s (taking (within rs) c) .effect .emptied ≡ 0 → leftBy s rs c ≡ rs
   -- an accepted event adds 3 and its data's length to what its source has spent, and changes no other record
   pub event :
       (source pool : ℕ) (content : List ℕ) → entryNumber s (taking (within rs) (event source pool content)) ≡ 0 →
@@ -69,7 +81,5 @@ pub record LeftLaw (s : Fortuna) (rs : List Quota) : Type 0 where
         allowance = recordAt rs i .allowance;
         spent = recordAt rs i .spent + cond (eqb (recordAt rs i .source) source) (3 + length content) 0;
       })
-  -- a call that is no event and made no pool reseed changes no record
-  pub others :
-      (c : Call) → ((source : ℕ) → isEventOf source c ≡ false) → entryStep s (taking (within rs) c) .effect .emptied ≡ 0 →
-      leftBy s rs c ≡ rs
+  -- a list that 37 does not refuse is returned as such a list
+  pub formed : (c : Call) → malformedQuotas rs ≡ false → malformedQuotas (leftBy s rs c) ≡ false

@@ -8,10 +8,10 @@ use Rattle.pools.specs.State.{fresh}
 use Rattle.pools.specs.Calls as Calls
 use Rattle.pools.specs.Calls.{Call, Outcome, step, runFrom}
 use Rattle.quotas.specs.declared.Quota.{Quota}
-use Rattle.quotas.specs.Entries.{without, within, taking, entryStep}
+use Rattle.quotas.specs.Entries.{Quotas, without, within, taking, entryStep, listLeft}
 use Rattle.quotas.specs.Runs.{Taken, takenBy, returned, handedOn}
 use Rattle.quotas.proofs.Entries.{as-before}
-use Rattle.reference.specs.Runs.{run, RunAsBefore, takenEntries, HandedIsRun}
+use Rattle.reference.specs.Runs.{run, listsLeft, RunAsBefore, takenEntries, HandedIsRun, HandedLists, NoListLeft}
 
 from-before : (calls : List Call) (place : ℕ) (s : Fortuna)
     → runFrom (λ place. entryStep) place s (map (taking without) calls) ≡ runFrom (λ place. step) place s calls
@@ -40,3 +40,27 @@ handed-from (c ∷ calls) place s rs =
 pub handed-is-run : HandedIsRun
 unfolding run
 handed-is-run rs calls = handed-from calls 0 fresh rs
+
+lists-from :
+    (calls : List Call) (place : ℕ) (s : Fortuna) (rs : List Quota) →
+    listsLeft (takenEntries (handedOn s rs calls)) (runFrom (λ place. entryStep) place s (takenEntries (handedOn s rs calls)))
+    ≡ map (λ (t : Taken). within (returned t)) (handedOn s rs calls)
+unfolding runFrom handedOn takenBy listsLeft listLeft returned
+lists-from [] place s rs = refl
+lists-from (c ∷ calls) place s rs =
+    ap (λ (l : List Quotas). within (returned (takenBy s rs c)) ∷ l)
+    (lists-from calls (suc place) (entryStep s (taking (within rs) c) .effect .next) (returned (takenBy s rs c)))
+
+pub handed-lists : HandedLists
+unfolding run
+handed-lists rs calls = lists-from calls 0 fresh rs
+
+none-from : (calls : List Call) (place : ℕ) (s : Fortuna)
+    → listsLeft (map (taking without) calls) (runFrom (λ place. entryStep) place s (map (taking without) calls)) ≡ map (λ (c : Call). without) calls
+unfolding runFrom listsLeft listLeft
+none-from [] place s = refl
+none-from (c ∷ calls) place s = ap (λ (l : List Quotas). without ∷ l) (none-from calls (suc place) (entryStep s (taking without c) .effect .next))
+
+pub no-list-left : NoListLeft
+unfolding run
+no-list-left calls = none-from calls 0 fresh

@@ -2,18 +2,19 @@
 -- a run that hands its list on.
 -- Assumes nothing.
 use mathlib.Core.Path.{_≡_}
+use mathlib.Core.Bool.{false}
 use mathlib.Core.List.{List, [], _∷_, _++_, map}
 use Prim.Native.Nat.{ℕ, _-_, _^_}
 use lib.ListN.{length, replicate, take, drop}
 use Rattle.laws.specs.Lists.{tabulate}
 use Rattle.pools.specs.declared.Fortuna.{Fortuna}
 use Rattle.pools.specs.State.{fresh}
-use Rattle.pools.specs.Calls.{Call, event, request, update, write, draw, shuffle}
+use Rattle.pools.specs.Calls.{Call, event, request, update, write, draw, shuffle, Outcome, outcome}
 use Rattle.quotas.specs.declared.Quota.{Quota}
-use Rattle.quotas.specs.Entries.{within, taking, entryNumber}
+use Rattle.quotas.specs.Entries.{within, taking, entryNumber, quotasLeft}
 use Rattle.quotas.specs.Left.{entryNumbers, leftBy}
-use Rattle.quotas.specs.Runs.{Taken, handedOn, leftOf, acceptedBytes, answersOf}
-use Rattle.reference.specs.Readings.{wholeBlocks, seededState}
+use Rattle.quotas.specs.Runs.{Taken, handedOn, leftOf, acceptedBytes, NoReseed, Added, answersOf, NoneByState}
+use Rattle.reference.specs.Readings.{wholeBlocks, seededState, reseededState}
 use Rattle.reference.specs.Boundaries.{keyedUnseeded, withFirstPool, firstSeed, page}
 
 -- a record of a source
@@ -40,26 +41,28 @@ AllowanceRow =
     let one : List ℕ = 1 ∷ [] in
     let top = 2 ^ 32 - 1 in
     refusedWith fresh (quota 7 10 4 ∷ quota 9 0 0 ∷ quota 8 4 4 ∷ [])
-    (event 7 0 (1 ∷ 2 ∷ 3 ∷ []) ∷ event 7 0 (1 ∷ 2 ∷ 3 ∷ 4 ∷ []) ∷ event 9 0 one ∷ event 8 0 one ∷ event 6 0 (replicate 32 1) ∷ [])
+    (event 7 0 (1 ∷ 2 ∷ 3 ∷ []) ∷ event 7 0 (1 ∷ 2 ∷ 3 ∷ 4 ∷ []) ∷ event 9 0 one ∷ event 8 31 one ∷ event 6 5 (replicate 32 1) ∷ [])
     ++ refusedWith fresh (quota 65535 4 0 ∷ []) (event 65535 0 one ∷ event 65534 0 one ∷ [])
     ++ refusedWith fresh (quota 7 top (top - 4) ∷ []) (event 7 0 one ∷ event 7 0 (1 ∷ one) ∷ [])
     ++ refusedWith fresh [] (event 0 0 one ∷ [])
     ≡ 0 ∷ 39 ∷ 39 ∷ 39 ∷ 38 ∷ 0 ∷ 38 ∷ 0 ∷ 39 ∷ 38 ∷ []
 
--- 37: a repeat at any two places, also of a source with nothing allowed; spent above allowance at the first and at the last place; 64 and
--- 65 records
+-- 37, for every call: a repeat at any two places, also of a source with nothing allowed; spent above allowance at the first and at the
+-- last place; 64 and 65 records. Sources that differ by 65,536 are two
 abbrev pub MalformedRow : Type 0
 MalformedRow =
     let one : List ℕ = 1 ∷ [] in
-    map (λ (rs : List Quota). entryNumber fresh (taking (within rs) (event 8 0 one)))
+    let calls : List Call =
+    event 8 0 one ∷ request 0 [] ∷ update 0 firstSeed ∷ write 0 firstSeed ∷ draw 0 6 1 ∷ shuffle 0 (5 ∷ 6 ∷ []) ∷ [] in
+    map (λ (rs : List Quota). refusedWith (seededState 1) rs calls)
     ((quota 8 9 0 ∷ quota 7 9 0 ∷ quota 7 9 0 ∷ [])
     ∷ (quota 7 0 0 ∷ quota 7 0 0 ∷ quota 8 9 0 ∷ [])
     ∷ (quota 8 9 0 ∷ quota 7 9 0 ∷ quota 8 9 0 ∷ [])
     ∷ (quota 7 9 10 ∷ quota 8 9 0 ∷ [])
     ∷ (quota 8 9 0 ∷ quota 7 9 10 ∷ [])
-    ∷ (quota 7 9 9 ∷ quota 8 9 0 ∷ quota 65536 9 0 ∷ [])
+    ∷ (quota 7 9 9 ∷ quota 8 9 0 ∷ quota 65544 9 0 ∷ [])
     ∷ many 64 ∷ many 65 ∷ [])
-    ≡ 37 ∷ 37 ∷ 37 ∷ 37 ∷ 37 ∷ 0 ∷ 0 ∷ 37 ∷ []
+    ≡ map (replicate 6) (37 ∷ 37 ∷ 37 ∷ 37 ∷ 37 ∷ 0 ∷ 0 ∷ 37 ∷ [])
 
 -- an event: 11, 12, 13 before 37, 37 before 38, 38 and 39 before 21 and 22
 abbrev pub EventOrderRow : Type 0
@@ -91,7 +94,7 @@ LongOrderRow =
     ((s : Fortuna) (rs : List Quota) (clock : ℕ) (out : List ℕ) → length out ≡ 1048577 → entryNumber s (taking (within rs) (request clock out)) ≡ 14)
     × ((s : Fortuna) (clock : ℕ) (out : List ℕ) → length out ≡ 1048576 → entryNumber s (taking (within overspentList) (request clock out)) ≡ 37)
 
--- each number that `entryNumbers` lists for a call with a list is one that its check gives, in that order; for 14 see `LongOrderRow`
+-- each number that `entryNumbers` lists for a call with a list is one that its check gives; for 14 see `LongOrderRow`
 abbrev pub NumbersRow : Type 0
 NumbersRow =
     let one : List ℕ = 1 ∷ [] in
@@ -121,8 +124,8 @@ NumbersRow =
 
 -- ---- the list that a call returns
 
--- an accepted event charges its own record, by 3 and its data; an event refused by the list, by the input or by the state charges none; a
--- request without a pool reseed neither
+-- an accepted event charges its own record, by 3 and its data; an event refused by the list, by the input or by the state (21, 22) charges
+-- none; a request, an update or a write without a pool reseed neither
 abbrev pub ChargedRow : Type 0
 ChargedRow =
     let rs : List Quota = quota 9 5 5 ∷ quota 7 10 4 ∷ quota 8 9 0 ∷ [] in
@@ -132,10 +135,11 @@ ChargedRow =
     × (leftBy fresh rs (event 7 32 (1 ∷ [])) ≡ rs)
     × (leftBy keyedUnseeded rs (event 7 0 (1 ∷ 2 ∷ [])) ≡ rs)
     × (leftBy fresh rs (request 0 []) ≡ rs)
-    × (leftBy (seededState 1) rs (request 0 []) ≡ rs)
+    × (map (leftBy (seededState 1) rs) (request 0 [] ∷ update 0 firstSeed ∷ write 0 firstSeed ∷ []) ≡ replicate 3 rs)
+    × (leftBy (withFirstPool fresh (wholeBlocks (2 ^ 61 - 65))) rs (event 7 0 (1 ∷ [])) ≡ rs)
 
 -- a pool reseed by a request, an update or a write leaves nothing spent (`LeftLaw` has every call); sources and allowances stay. A list
--- that 37 refuses stops the reseed
+-- that 37 refuses stops the reseed. A later reseed clears too
 abbrev pub ClearedRow : Type 0
 ClearedRow =
     let due = withFirstPool fresh (wholeBlocks 64) in
@@ -143,6 +147,17 @@ ClearedRow =
     let after : List Quota = quota 9 5 0 ∷ quota 7 10 0 ∷ quota 8 9 0 ∷ [] in
     (map (leftBy due rs) (request 0 [] ∷ request 0 (1 ∷ []) ∷ update 0 firstSeed ∷ write 0 firstSeed ∷ []) ≡ after ∷ after ∷ after ∷ after ∷ [])
     × (leftBy due overspentList (request 0 []) ≡ overspentList)
+    × (leftBy (reseededState 1 1 0) rs (request 200 []) ≡ after)
+
+-- a draw that found no value, and made a pool reseed, or none
+abbrev pub NoneDrawnRow : Type 0
+NoneDrawnRow =
+    let rs : List Quota = quota 9 5 5 ∷ quota 7 10 4 ∷ [] in
+    let drawn : ℕ → Outcome Fortuna =
+    λ emptied. outcome 0 false 0 [] fresh (record { emptied = emptied; buffer = []; next = fresh; trace = [] }) in
+    (map (λ (emptied : ℕ). drawn emptied .number) (0 ∷ 1 ∷ []) ≡ 33 ∷ 33 ∷ [])
+    × (map (λ (emptied : ℕ). quotasLeft (draw 0 6 1) rs (drawn emptied)) (0 ∷ 1 ∷ 2 ∷ 32 ∷ [])
+    ≡ rs ∷ replicate 3 (quota 9 5 0 ∷ quota 7 10 0 ∷ []))
 
 -- ---- a run that hands its list on
 
@@ -164,6 +179,23 @@ FloodRow =
     × (answersOf 7 flood ≡ 0 ∷ 0 ∷ 39 ∷ 0 ∷ [])
     × (answersOf 9 flood ≡ 0 ∷ [])
 
+-- what `Isolation` asks for is met by runs with events of other sources added, refused ones too; source 7 has 0, 39 and 12 in both
+unfoldable pub alone : List Call
+alone = event 7 3 (1 ∷ []) ∷ request 0 [] ∷ event 7 0 (1 ∷ 2 ∷ []) ∷ event 7 32 (1 ∷ []) ∷ []
+
+unfoldable pub joinedBy : List Call
+joinedBy =
+    event 9 1 (1 ∷ []) ∷ event 7 3 (1 ∷ []) ∷ request 0 [] ∷ event 9 0 (1 ∷ []) ∷ event 7 0 (1 ∷ 2 ∷ []) ∷ event 7 32 (1 ∷ [])
+    ∷ event 6 2 (1 ∷ []) ∷ []
+
+abbrev pub IsolationRow : Type 0
+IsolationRow =
+    let rs : List Quota = quota 7 8 0 ∷ quota 9 4 0 ∷ [] in
+    Added 7 alone joinedBy × NoReseed (handedOn fresh rs alone) × NoReseed (handedOn fresh rs joinedBy)
+    × NoneByState (answersOf 7 (handedOn fresh rs joinedBy))
+    × (answersOf 7 (handedOn fresh rs alone) ≡ 0 ∷ 39 ∷ 12 ∷ [])
+    × (map (λ (t : Taken). t .outcome .number) (handedOn fresh rs joinedBy) ≡ 0 ∷ 0 ∷ 23 ∷ 39 ∷ 39 ∷ 12 ∷ 38 ∷ [])
+
 -- the rows together
 pub record QuotaRows : Type 0 where
   pub allowances : AllowanceRow
@@ -174,4 +206,6 @@ pub record QuotaRows : Type 0 where
   pub numbers : NumbersRow
   pub charged : ChargedRow
   pub cleared : ClearedRow
+  pub noneDrawn : NoneDrawnRow
   pub handedOn : FloodRow
+  pub isolation : IsolationRow

@@ -8,7 +8,7 @@ use Rattle.pools.specs.Calls as Calls
 use Rattle.pools.specs.Calls.{Call, Outcome, runFrom, stateFrom}
 use Rattle.quotas.specs.declared.Quota.{Quota}
 use Rattle.quotas.specs.Entries.{Quotas, without, within, Entry, taking, entryStep, listLeft}
-use Rattle.quotas.specs.Runs.{Taken, handedOn}
+use Rattle.quotas.specs.Runs.{Taken, returned, handedOn}
 
 -- from the fresh state: the outcomes of the calls, and the state that they leave
 unfoldable pub run : List Entry → List (Outcome Fortuna)
@@ -35,3 +35,15 @@ abbrev pub HandedIsRun : Type 0
 HandedIsRun =
     (rs : List Quota) (calls : List Call) →
     run (takenEntries (handedOn fresh rs calls)) ≡ map (λ (t : Taken). t .outcome) (handedOn fresh rs calls)
+
+-- and the lists that its calls return are those handed on; calls without a list return none
+abbrev pub HandedLists : Type 0
+HandedLists =
+    (rs : List Quota) (calls : List Call) →
+    let ts = handedOn fresh rs calls in
+    listsLeft (takenEntries ts) (run (takenEntries ts)) ≡ map (λ (t : Taken). within (returned t)) ts
+
+abbrev pub NoListLeft : Type 0
+NoListLeft =
+    (calls : List Call) →
+    listsLeft (map (taking without) calls) (run (map (taking without) calls)) ≡ map (λ (c : Call). without) calls
