@@ -40,13 +40,14 @@ verdictOf r cost number =
 unfoldable pub unlistedOf : ℕ → ℕ
 unlistedOf number = cond (comesFirst number) number 38
 
--- ---- a check of the list: its bound is 0 once a fault is found, else 1 more than the least source above all so far
+-- ---- a check of the list: its bound is 0 once a fault is found, else 2 more than the largest source so far, and 1 before the first
 
 -- before the first record: 0 for more than 64 records
 unfoldable pub firstBound : ℕ → ℕ
 firstBound n = cond (ltb maxQuotas n) 0 1
 
--- where the search for the source of the record at i starts: no record before i has a source above all so far
+-- where the search for the source of the record at i starts: at i where the source is above all before it, or a fault is known; else at
+-- the front
 unfoldable pub startAt : ℕ → ℕ → ℕ → ℕ
 startAt bound x i = cond (leb bound (x + 1)) i 0
 

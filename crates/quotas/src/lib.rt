@@ -150,8 +150,8 @@ pub fn charge(list: &mut [Quota], source: u32, cost: u32, number: u32) -> u32
     unlisted(number)
 }
 
-// A check keeps one number as it goes along the list, the bound: 0 once a fault is found, else 1 more than the least source that is
-// above all sources so far. A source above all before it is new: it needs no search among them.
+// A check keeps one number as it goes along the list, the bound: 0 once a fault is found, else 2 more than the largest source so far, and
+// 1 before the first record. A source above all before it is new: it needs no search among them.
 
 // The bound before the first record: 0 where there are too many.
 fn first_bound(n: usize) -> u64
