@@ -8,9 +8,10 @@ use native.Mathlib.Omega.{arith}
 use lib.Dec.{ltb}
 use borrow.Author.Tests.{ltb-false}
 use Rattle.laws.specs.Refusals.{refuse}
+use Rattle.laws.specs.Blocks.{blockCount}
 use Rattle.laws.proofs.Refusals.{passed}
 use Rattle.generator.specs.Counter.{maxCounter}
-use Rattle.generator.specs.Steps.{GeneratorState, blockCount}
+use Rattle.generator.specs.Steps.{GeneratorState}
 use Rattle.generator.specs.Refusals.{maxRequest, maxSeed, malformed, unseeded, spent, stateNumber, reseedNumber, outputNumber}
 
 pub reseed-fits : (w : GeneratorState) (n : ℕ) → reseedNumber w n ≡ 0 → n ≤ maxSeed

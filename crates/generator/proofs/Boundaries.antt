@@ -2,9 +2,10 @@
 -- Assumes nothing.
 use mathlib.Core.Path.{refl}
 use Rattle.laws.specs.Lists.{allZero}
+use Rattle.laws.specs.Blocks.{blockCount}
 use Rattle.hash.specs.ShaD.{maxMessage, maxDMessage}
 use Rattle.generator.specs.Counter.{value, littleEndian, maxCounter}
-use Rattle.generator.specs.Steps.{initial, blockCount, generateBlocks, blockData, pseudoRandomData}
+use Rattle.generator.specs.Steps.{initial, generateBlocks, blockData, pseudoRandomData}
 use Rattle.generator.specs.Refusals.{maxRequest, maxSeed, malformed, unseeded, spent, stateNumber, reseedNumber, outputNumber, blocksNumber, requestNumber}
 use Rattle.generator.specs.Boundaries.{keyed, Boundaries}
 

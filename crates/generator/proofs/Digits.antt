@@ -13,10 +13,9 @@ use lib.Dec.{eqb, ltb, lit<}
 use mir.Val.{Fits}
 use mir.Syntax.{w8}
 use lib.ListN.{length, getD, set, drop}
-use lib.Seq.{drop-cons, getD-set-same, getD-set-other}
-use borrow.Author.Tests.{eqb-true, eqb-false, ne-eqb, lt-ltb, le-ltb}
+use lib.Seq.{drop-cons}
+use borrow.Author.Tests.{ne-eqb, lt-ltb, le-ltb}
 use Rattle.laws.specs.Lists.{allZero}
-use Rattle.laws.proofs.Cases.{by-test}
 use Rattle.cipher.specs.Aes.{Bytes}
 use Rattle.generator.specs.Counter.{value, littleEndian, SixteenBytes, maxCounter, counterBlock}
 
@@ -68,15 +67,6 @@ value-set (p ∷ ps) (suc i) x h =
     let f : (y : ℕ) → y * (256 * 256 ^ i) ≡ 256 * (y * 256 ^ i)
     = λ y. sym (mul-assoc y 256 (256 ^ i)) ∙ rw (mul-comm y 256) (mul-assoc 256 y (256 ^ i)) in
     rw (e, f (getD ps i 0), f x) (omega (arith, rest))
-
--- a store of a byte keeps all bytes
-pub bytes-set : (ps : List ℕ) (i x : ℕ) → i < length ps → x < 256 → Bytes ps → Bytes (set ps i x)
-bytes-set ps i x h b all j =
-    by-test
-    (eqb j i)
-    (getD (set ps i x) j 0 < 256)
-    (λ t. rw (eqb-true j i t, getD-set-same ps i x 0 h) b)
-    (λ t. rw (getD-set-other ps i j x 0 (eqb-false j i t)) (all j))
 
 sum-zero : (p v : ℕ) → eqb (p + 256 * v) 0 ≡ (eqb p 0 && eqb v 0)
 sum-zero zero zero = refl

@@ -5,13 +5,14 @@ use mathlib.Core.List.{List}
 use Prim.Native.Nat.{ℕ, _+_}
 use native.Mathlib.Nat.{le-of-eq}
 use lib.Seq.{take-all}
+use Rattle.laws.specs.Blocks.{blockCount}
 use Rattle.cipher.specs.Aes.{cipher}
 use Rattle.cipher.proofs.Laws.{length-cipher}
 use Rattle.generator.specs.Counter.{value, littleEndian}
-use Rattle.generator.specs.Steps.{decode, encode, blockCount, blockData, pseudoRandomData}
+use Rattle.generator.specs.Steps.{decode, encode, blockData, pseudoRandomData}
 use Rattle.generator.specs.Closed.{blocksFrom, bytesFrom, afterBlocks, output, rekeyed, closedBlockData, closedRandomData}
 use Rattle.generator.specs.declared.Generator.{Generator}
-use Rattle.generator.proofs.Parts.{length-enciphered}
+use Rattle.generator.proofs.Blocks.{length-enciphered}
 use Rattle.generator.proofs.Steps.{block-data-closed, random-data-closed}
 
 module _ (g : Generator) (n : ℕ) where

@@ -8,10 +8,11 @@ use native.Mathlib.Omega.{arith}
 use lib.Dec.{eqb, ltb}
 use lib.ListN.{length}
 use borrow.Author.Tests.{le-ltb}
+use Rattle.laws.specs.Blocks.{blockCount}
 use Rattle.hash.specs.ShaD.{maxDMessage}
 use Rattle.hash.proofs.Laws.{d-message-room}
 use Rattle.generator.specs.Counter.{value, maxCounter}
-use Rattle.generator.specs.Steps.{GeneratorState, decode, encode, reseed, blockCount, pseudoRandomData}
+use Rattle.generator.specs.Steps.{GeneratorState, decode, encode, reseed, pseudoRandomData}
 use Rattle.generator.specs.Refusals.{maxRequest, maxSeed, malformed, unseeded, spent, stateNumber, reseedNumber, outputNumber, requestNumber}
 use Rattle.generator.specs.Operations.{reseedAnswer, reseeded, requestAnswer, requested, requestBuffer}
 use Rattle.generator.specs.declared.Generator.{Generator}

@@ -1,6 +1,6 @@
 pub mod Digits
 pub mod Seeds
-pub mod Parts
+pub mod Blocks
 pub mod Steps
 pub mod Accepted
 pub mod UnderKey

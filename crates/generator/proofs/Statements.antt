@@ -7,8 +7,9 @@ use Prim.Native.Nat.{ℕ, _<_, _≤_}
 use native.Mathlib.Nat.{add-zero}
 use lib.Dec.{eqb}
 use lib.ListN.{length, getD}
+use Rattle.laws.specs.Blocks.{blockCount}
 use Rattle.generator.specs.Counter.{value, littleEndian, maxCounter}
-use Rattle.generator.specs.Steps.{GeneratorState, decode, encode, generateBlocks, blockCount, blockData}
+use Rattle.generator.specs.Steps.{GeneratorState, decode, encode, generateBlocks, blockData}
 use Rattle.generator.specs.Closed.{afterBlocks}
 use Rattle.generator.specs.Operations.{number, blocksAnswer, blocksMade}
 use Rattle.generator.specs.Statements.{CounterEncoding, ClosedForm, NoBlocks, NothingAsked, NumberInjective}

@@ -8,9 +8,10 @@ use native.Mathlib.Numerals.{add-one}
 use native.Mathlib.Omega.{arith}
 use lib.ListN.{length, take}
 use Rattle.laws.specs.Lists.{tabulate, joined}
+use Rattle.laws.specs.Blocks.{blockCount}
 use Rattle.cipher.specs.Aes.{cipher}
 use Rattle.generator.specs.Counter.{littleEndian, counterBlock}
-use Rattle.generator.specs.Steps.{GeneratorState, Generated, generateBlocks, blockCount, blockData, pseudoRandomData}
+use Rattle.generator.specs.Steps.{GeneratorState, Generated, generateBlocks, blockData, pseudoRandomData}
 use Rattle.generator.specs.Statements.{Enciphers}
 use Rattle.generator.specs.Closed.{counters, enciphered, blocksFrom, afterBlocks, output, rekeyed, closedBlockData, closedRandomData}
 

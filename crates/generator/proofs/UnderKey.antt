@@ -9,18 +9,18 @@ use Rattle.cipher.specs.Aes.{Bytes, keyExpansion, cipher}
 use Rattle.word_cipher.specs.Words.{packed}
 use Rattle.word_cipher.specs.Tables.{tables}
 use Rattle.word_cipher.specs.Cipher.{wordCipher}
-use Rattle.word_cipher.proofs.Laws.{length-word-cipher, ciphers-agree}
+use Rattle.word_cipher.proofs.Laws.{ciphers-agree}
 use Rattle.generator.specs.Counter.{value, littleEndian, maxCounter, counterBlock}
 use Rattle.generator.specs.Closed.{counters, enciphered, blocksFrom}
 use Rattle.generator.proofs.Digits.{value-counter, bytes-counter}
-use Rattle.generator.proofs.Parts.{enciphered-ext}
+use Rattle.generator.proofs.Blocks.{enciphered-ext}
 
 module _ (key t w : List ℕ) (tabled : t ≡ tables) (keyed : w ≡ packed 60 (keyExpansion key)) (bytes : Bytes key) where
   -- counter blocks are bytes, and so is the key
   under-key : (c k : ℕ) → enciphered (wordCipher t w) (counters c k) ≡ blocksFrom key c k
   unfolding blocksFrom
   under-key c k =
-      enciphered-ext (wordCipher t w) (length-word-cipher t w) (cipher key)
+      enciphered-ext (wordCipher t w) (cipher key)
       (λ c. rw (tabled, keyed) (ciphers-agree key (counterBlock c) bytes (bytes-counter c))) (counters c k)
 
   -- b₁ blocks from v on, then b₂ from the counter c₁ that they left

@@ -4,8 +4,9 @@ use mathlib.Core.Path.{_≡_}
 use mathlib.Core.List.{[], _∷_, _++_, map}
 use Prim.Native.Nat.{ℕ, _+_, _-_, _^_}
 use lib.ListN.{replicate}
+use Rattle.laws.specs.Blocks.{blockCount}
 use Rattle.generator.specs.Counter.{value, littleEndian}
-use Rattle.generator.specs.Steps.{GeneratorState, initial, blockCount, pseudoRandomData}
+use Rattle.generator.specs.Steps.{GeneratorState, initial, pseudoRandomData}
 use Rattle.generator.specs.Refusals.{reseedNumber, blocksNumber, requestNumber}
 
 -- a state with a key that is not zero and the counter c

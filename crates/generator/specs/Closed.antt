@@ -3,9 +3,10 @@
 use mathlib.Core.List.{List, [], _∷_, _++_, map}
 use Prim.Native.Nat.{ℕ, zero, suc, _+_}
 use lib.ListN.{take}
+use Rattle.laws.specs.Blocks.{blockCount}
 use Rattle.cipher.specs.Aes.{cipher}
 use Rattle.generator.specs.Counter.{counterBlock}
-use Rattle.generator.specs.Steps.{GeneratorState, Generated, blockCount}
+use Rattle.generator.specs.Steps.{GeneratorState, Generated}
 
 -- k counters from c on
 unfoldable pub counters : ℕ → ℕ → List ℕ

@@ -5,9 +5,10 @@ use Prim.Native.Nat.{ℕ, _+_, _-_}
 use lib.Dec.{eqb, ltb}
 use Rattle.laws.specs.Lists.{allZero}
 use Rattle.laws.specs.Refusals.{refuse}
+use Rattle.laws.specs.Blocks.{blockCount}
 use Rattle.hash.specs.ShaD.{maxDMessage}
 use Rattle.generator.specs.Counter.{maxCounter}
-use Rattle.generator.specs.Steps.{GeneratorState, blockCount}
+use Rattle.generator.specs.Steps.{GeneratorState}
 
 -- the most bytes of one request (14)
 unfoldable pub maxRequest : ℕ

@@ -5,9 +5,10 @@ use mathlib.Core.List.{List, [], _++_}
 use Prim.Native.Nat.{ℕ, _+_, _≤_, _<_}
 use lib.ListN.{length, getD, take}
 use Rattle.laws.specs.Lists.{tabulate, joined}
+use Rattle.laws.specs.Blocks.{blockCount}
 use Rattle.cipher.specs.Aes.{cipher}
 use Rattle.generator.specs.Counter.{value, littleEndian, maxCounter}
-use Rattle.generator.specs.Steps.{GeneratorState, blockCount, blockData, pseudoRandomData, generateBlocks}
+use Rattle.generator.specs.Steps.{GeneratorState, blockData, pseudoRandomData, generateBlocks}
 use Rattle.generator.specs.Closed.{closedBlockData, closedRandomData, afterBlocks}
 use Rattle.generator.specs.Operations.{number, blocksMade}
 use Rattle.generator.specs.declared.Generator.{Generator}

@@ -2,8 +2,9 @@
 -- and the counter blocks that were enciphered for them, in order, come out of one definition.
 -- Assumes nothing.
 use mathlib.Core.List.{List, [], _∷_, _++_}
-use Prim.Native.Nat.{ℕ, zero, suc, _+_, _/_}
+use Prim.Native.Nat.{ℕ, zero, suc, _+_}
 use lib.ListN.{take, replicate}
+use Rattle.laws.specs.Blocks.{blockCount}
 use Rattle.hash.specs.ShaD.{D}
 use Rattle.cipher.specs.Aes.{cipher}
 use Rattle.generator.specs.Counter.{value, littleEndian, counterBlock}
@@ -42,10 +43,6 @@ generateBlocks w (suc k) =
     let block = counterBlock (w .count) in
     let rest = generateBlocks (record { key = w .key; count = w .count + 1 }) k in
     record { bytes = cipher (w .key) block ++ rest .bytes; next = rest .next; trace = block ∷ rest .trace }
-
--- the blocks that n bytes take: ceil(n / 16)
-unfoldable pub blockCount : ℕ → ℕ
-blockCount n = (n + 15) / 16
 
 -- the first n bytes of as many blocks as they take; K stays (01's block operation)
 unfoldable pub blockData : GeneratorState → ℕ → Generated

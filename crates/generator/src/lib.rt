@@ -8,14 +8,15 @@ pub use answer::Answer;
 use counter::increment;
 use counter::is_spent;
 use laws::all_zero;
+use laws::block_count;
 use output::fill_both;
-pub use sizes::block_count;
 pub use sizes::max_request;
 ghost use mathlib.Core.Path.{_≡_};
 ghost use Prim.Native.Nat.{_+_, _≤_};
 ghost use lib.ListN.{length};
+ghost use Rattle.laws.specs.Blocks.{blockCount};
 ghost use Rattle.generator.specs.Counter.{maxCounter};
-ghost use Rattle.generator.specs.Steps.{decode, encode, reseed, blockData, pseudoRandomData, blockCount};
+ghost use Rattle.generator.specs.Steps.{decode, encode, reseed, blockData, pseudoRandomData};
 ghost use Rattle.generator.specs.Refusals.{malformed, unseeded, spent, maxSeed, stateNumber, reseedNumber, outputNumber};
 ghost use Rattle.generator.specs.Operations.{number, fresh, reseedAnswer, reseeded, blocksAnswer, blocksMade, blocksBuffer, requestAnswer, requested, requestBuffer};
 

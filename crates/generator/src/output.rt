@@ -1,20 +1,14 @@
 // Blocks of the cipher by tables, written straight into the parts of a lent buffer.
 use crate::counter::step;
+use laws::part_size;
 use word_cipher::write_block;
 ghost use mathlib.Core.Path.{_≡_};
-ghost use Prim.Native.Nat.{_+_, _≤_, min};
+ghost use Prim.Native.Nat.{_+_, _≤_};
 ghost use lib.ListN.{length, take};
+ghost use Rattle.laws.specs.Blocks.{blockCount};
 ghost use Rattle.word_cipher.specs.Cipher.{wordCipher};
 ghost use Rattle.generator.specs.Counter.{value, littleEndian, SixteenBytes, maxCounter};
-ghost use Rattle.generator.specs.Steps.{blockCount};
 ghost use Rattle.generator.specs.Closed.{counters, enciphered, bytesFrom};
-
-// The bytes of the next part, where so many are left.
-fn part_size(left: usize) -> usize
-    ensures { λ r. ⌜ r ≡ min 16 left ⌝ }
-{
-    if left < 16 { left } else { 16 }
-}
 
 // Fills the buffer with the blocks from the counter on, and leaves the counter that follows.
 fn fill(tables: &[u32; 1024], words: &[u32; 60], counter: &mut [u8; 16], out: &mut [u8])

@@ -6,3 +6,4 @@ pub mod Refusals
 pub mod Lists
 pub mod Counts
 pub mod Bits
+pub mod Parts

@@ -59,6 +59,17 @@ module _ {A : Type 0} where
       read : (i : ℕ) → i < n → getD (replicate n x) i x ≡ getD (tabulate f n) i x
       read i h = getD-replicate n i x x h ∙ sym (getD-tabulate f x n i h ∙ e i)
 
+-- ---- a store
+
+-- where every element is below m, so it is after a store of one that is
+pub set-below : (m : ℕ) (ps : List ℕ) (i x : ℕ) → i < length ps → x < m → ((j : ℕ) → getD ps j 0 < m) → (j : ℕ) → getD (set ps i x) j 0 < m
+set-below m ps i x h b all j =
+    by-test
+    (eqb j i)
+    (getD (set ps i x) j 0 < m)
+    (λ t. rw (eqb-true j i t, getD-set-same ps i x 0 h) b)
+    (λ t. rw (getD-set-other ps i j x 0 (eqb-false j i t)) (all j))
+
 -- ---- tests
 
 pub allZero-replicate : (n : ℕ) → allZero (replicate n 0) ≡ true

@@ -1,8 +1,9 @@
 // Helpers on bytes that several crates need.
 ghost use mathlib.Core.Path.{_≡_};
 ghost use mathlib.Core.Logic.{_⊎_};
-ghost use Prim.Native.Nat.{_≤_};
+ghost use Prim.Native.Nat.{_≤_, min};
 ghost use Rattle.laws.specs.Lists.{overwrite, allZero};
+ghost use Rattle.laws.specs.Blocks.{blockCount};
 
 // The smaller of two counts.
 fn least(a: usize, b: usize) -> usize
@@ -35,4 +36,18 @@ pub fn all_zero(bytes: &[u8]) -> bool
         i = i + 1;
     }
     true
+}
+
+// The blocks of 16 bytes that n bytes take, for every n that there is.
+pub fn block_count(n: usize) -> usize
+    ensures { λ r. ⌜ r ≡ blockCount n ⌝ }
+{
+    n / 16 + (n % 16 + 15) / 16
+}
+
+// The bytes of a buffer's next part, where so many are left.
+pub fn part_size(left: usize) -> usize
+    ensures { λ r. ⌜ r ≡ min 16 left ⌝ }
+{
+    if left < 16 { left } else { 16 }
 }

@@ -8,9 +8,10 @@ use native.Mathlib.Omega.{arith}
 use lib.Dec.{lit≤}
 use lib.ListN.{length}
 use borrow.Author.Tests.{le-ltb, ne-eqb}
+use Rattle.laws.specs.Blocks.{blockCount}
 use Rattle.laws.proofs.Cases.{neither}
 use Rattle.generator.specs.Counter.{maxCounter}
-use Rattle.generator.specs.Steps.{decode, encode, reseed, blockCount}
+use Rattle.generator.specs.Steps.{decode, encode, reseed}
 use Rattle.generator.specs.Refusals as Generator
 use Rattle.generator.specs.Operations.{reseeded}
 use Rattle.generator.specs.declared.Generator.{Generator}

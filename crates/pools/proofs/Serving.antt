@@ -9,8 +9,9 @@ use native.Mathlib.Omega.{arith}
 use lib.Dec.{eqb}
 use lib.ListN.{length}
 use borrow.Author.Tests.{ltb-false, le-ltb, ne-eqb}
+use Rattle.laws.specs.Blocks.{blockCount}
 use Rattle.generator.specs.Counter.{maxCounter}
-use Rattle.generator.specs.Steps.{GeneratorState, decode, encode, reseed, blockCount, pseudoRandomData}
+use Rattle.generator.specs.Steps.{GeneratorState, decode, encode, reseed, pseudoRandomData}
 use Rattle.generator.specs.Refusals as Generator
 use Rattle.generator.specs.Operations.{requested, requestBuffer}
 use Rattle.generator.specs.declared.Generator.{Generator}

@@ -6,9 +6,10 @@ use mathlib.Core.List.{List, []}
 use Prim.Native.Nat.{ℕ, _+_, _*_, _≤_}
 use lib.ListN.{length, getD, take}
 use Rattle.laws.specs.Lists.{tabulate, joined}
+use Rattle.laws.specs.Blocks.{blockCount}
 use Rattle.hash.specs.ShaD.{emptyPool, poolDigest}
 use Rattle.hash.specs.declared.hasher.Hasher.{Hasher}
-use Rattle.generator.specs.Steps.{decode, blockCount}
+use Rattle.generator.specs.Steps.{decode}
 use Rattle.generator.specs.Refusals as Generator
 use Rattle.pools.specs.Events.{poolCount}
 use Rattle.pools.specs.Schedule.{used, usedPools}

@@ -8,8 +8,8 @@ use lib.Dec.{eqb, ltb}
 use lib.ListN.{length, getD, replicate}
 use Rattle.laws.specs.Lists.{sameList}
 use Rattle.laws.specs.Refusals.{refuse}
+use Rattle.laws.specs.Blocks.{blockCount}
 use Rattle.generator.specs.Counter.{maxCounter}
-use Rattle.generator.specs.Steps.{blockCount}
 use Rattle.generator.specs.Refusals.{maxRequest}
 use Rattle.pools.specs.Events.{maxSource, poolCount, maxData, gain}
 use Rattle.slots.specs.Shuffle.{hasRepeat}

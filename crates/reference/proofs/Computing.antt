@@ -1,11 +1,12 @@
 -- What the rows compute with, named once: whatever unfolds one of these unfolds all that its own line names.
 -- Assumes nothing.
 use Rattle.laws.specs.Lists.{tabulate, allZero, sameList}
+use Rattle.laws.specs.Blocks.{blockCount}
 use Rattle.hash.specs.Hasher.{zeroFilled, absorbFrom, absorb}
 use Rattle.hash.specs.Sha256.{blocks}
 use Rattle.hash.specs.ShaD.{maxMessage, maxDMessage, maxPoolLength, zeroBlockHash, emptyPool}
 use Rattle.generator.specs.Counter.{value, littleEndian, maxCounter}
-use Rattle.generator.specs.Steps.{decode, encode, initial, reseed, blockCount}
+use Rattle.generator.specs.Steps.{decode, encode, initial, reseed}
 use Rattle.generator.specs.Refusals as Generator
 use Rattle.generator.specs.Operations as Operations
 use Rattle.slots.specs.Shuffle.{isIn, hasRepeat, exchange}

@@ -8,9 +8,10 @@ use native.Mathlib.Omega.{arith}
 use lib.Dec.{eqb}
 use lib.ListN.{length, getD}
 use Rattle.laws.specs.Lists.{joined}
+use Rattle.laws.specs.Blocks.{blockCount}
 use Rattle.laws.proofs.Lists.{joined-map}
 use Rattle.generator.specs.Counter.{counterBlock, maxCounter}
-use Rattle.generator.specs.Steps.{GeneratorState, reseed, blockCount}
+use Rattle.generator.specs.Steps.{GeneratorState, reseed}
 use Rattle.generator.specs.Closed.{counters, rekeyed, closedRandomData}
 use Rattle.generator.proofs.Statements.{counter-encoding}
 use Rattle.pools.specs.declared.Fortuna.{Fortuna}

@@ -8,8 +8,9 @@ use native.Mathlib.Omega.{arith}
 use lib.Dec.{eqb, eqb·suc-zero}
 use lib.ListN.{length, length-append}
 use Rattle.laws.specs.Lists.{joined}
+use Rattle.laws.specs.Blocks.{blockCount}
 use Rattle.generator.specs.Counter.{counterBlock}
-use Rattle.generator.specs.Steps.{initial, reseed, blockCount}
+use Rattle.generator.specs.Steps.{initial, reseed}
 use Rattle.generator.specs.Closed.{counters, rekeyed, closedRandomData}
 use Rattle.pools.specs.declared.Fortuna.{Fortuna}
 use Rattle.pools.specs.State.{counterOf}

@@ -6,9 +6,9 @@ use mathlib.Core.List.{List}
 use Prim.Native.Nat.{ℕ, suc, _+_, _-_, _*_, _≤_}
 use native.Mathlib.Omega.{arith}
 use lib.ListN.{length}
+use Rattle.laws.specs.Blocks.{blockCount}
 use Rattle.laws.proofs.Cases.{split}
 use Rattle.generator.specs.Counter.{maxCounter}
-use Rattle.generator.specs.Steps.{blockCount}
 use Rattle.generator.specs.Closed.{rekeyed, closedRandomData}
 use Rattle.pools.specs.declared.Fortuna.{Fortuna}
 use Rattle.pools.specs.Refusals.{maxTries}

@@ -4,8 +4,9 @@ use mathlib.Core.Path.{_≡_, refl}
 use Prim.Native.Nat.{ℕ, _+_}
 use lib.ListN.{replicate}
 use Rattle.laws.specs.Lists.{joined}
+use Rattle.laws.specs.Blocks.{blockCount}
 use Rattle.generator.specs.Counter.{value, littleEndian}
-use Rattle.generator.specs.Steps.{generateBlocks, blockCount, blockData, pseudoRandomData}
+use Rattle.generator.specs.Steps.{generateBlocks, blockData, pseudoRandomData}
 use Rattle.generator.specs.Closed.{rekeyed, closedRandomData}
 use Rattle.generator.proofs.Steps.{random-data-closed}
 use Rattle.pools.specs.State.{counterOf}

@@ -5,8 +5,9 @@ use mathlib.Core.Bool.{cond}
 use mathlib.Core.List.{List}
 use Prim.Native.Nat.{ℕ, _+_, _≤_}
 use native.Mathlib.Omega.{arith}
+use Rattle.laws.specs.Blocks.{blockCount}
 use Rattle.generator.specs.Counter.{maxCounter}
-use Rattle.generator.specs.Steps.{reseed, blockCount}
+use Rattle.generator.specs.Steps.{reseed}
 use Rattle.generator.specs.Closed.{rekeyed, closedRandomData}
 use Rattle.pools.specs.Refusals.{seedSize}
 use Rattle.pools.specs.Effects.{randomData, updateSeed}

@@ -3,8 +3,9 @@
 use mathlib.Core.Path.{ap, _∙_}
 use native.Mathlib.Omega.{arith}
 use lib.ListN.{length}
+use Rattle.laws.specs.Blocks.{blockCount}
 use Rattle.generator.specs.Counter.{littleEndian}
-use Rattle.generator.specs.Steps.{decode, blockCount}
+use Rattle.generator.specs.Steps.{decode}
 use Rattle.generator.proofs.Effects.{blocks-next, blocks-bytes}
 use borrow.Author.Needs.{needs}
 use Rattle.generator.proofs.Generator.filled.Statement.{statement}

@@ -2,7 +2,8 @@
 -- Assumes nothing.
 use native.Mathlib.Omega.{arith}
 use lib.ListN.{length}
-use Rattle.generator.specs.Steps.{decode, blockCount}
+use Rattle.laws.specs.Blocks.{blockCount}
+use Rattle.generator.specs.Steps.{decode}
 use Rattle.generator.proofs.Effects.{request-next, request-bytes}
 use borrow.Author.Needs.{needs}
 use Rattle.generator.proofs.Generator.served.Statement.{statement}

@@ -4,9 +4,10 @@ use mathlib.Core.Path.{_≡_, refl, sym, ap, _∙_}
 use Prim.Native.Nat.{_+_, _-_, _^_, _≤_, _<_}
 use native.Mathlib.Omega.{arith}
 use lib.ListN.{length, getD, set, length-set}
+use Rattle.laws.proofs.Lists.{set-below}
 use Rattle.generator.specs.Counter.{value, littleEndian}
 use Rattle.cipher.specs.Aes.{Bytes}
-use Rattle.generator.proofs.Digits.{counter-value, value-set, bytes-set, littleEndian-wraps, next-value, carry-on}
+use Rattle.generator.proofs.Digits.{counter-value, value-set, littleEndian-wraps, next-value, carry-on}
 use borrow.Author.Needs.{needs}
 use Rattle.generator.proofs.counter.step.Statement.{statement}
 use Rattle.generator.proofs.counter.step.Tie as tie
@@ -41,7 +42,7 @@ returns c =
     let s = value-set v (b .i) (getD v (b .i) 0 + 1) k in
     let next = set v (b .i) (getD v (b .i) 0 + 1) in
     let e : value next ≡ value (turn .before .args .counter .now) + 1 = next-value _ _ _ _ _ s (b .inv .3) in
-    sym (rw e at (counter-value next (length-set v (b .i) _ ∙ b .inv .1) (bytes-set v (b .i) _ k (omega arith) (b .inv .2))))
+    sym (rw e at (counter-value next (length-set v (b .i) _ ∙ b .inv .1) (set-below 256 v (b .i) _ k (omega arith) (b .inv .2))))
 
 element-write-counter-2 : tie.Need-element-write-counter-2 Inv-loop μ-loop
 element-write-counter-2 c = search needs
@@ -58,7 +59,7 @@ loop-again c =
     let v = b .counter in
     let k : b .i < length v = omega arith in
     let full : getD v (b .i) 0 ≡ 255 = omega (arith, b .inv .2 (b .i)) in
-    (omega arith, length-set v (b .i) 0 ∙ b .inv .1, bytes-set v (b .i) 0 k (omega arith) (b .inv .2), carry-on v (b .i) _ k full (b .inv .3))
+    (omega arith, length-set v (b .i) 0 ∙ b .inv .1, set-below 256 v (b .i) 0 k (omega arith) (b .inv .2), carry-on v (b .i) _ k full (b .inv .3))
 
 returns-2 : tie.Need-returns-2 Inv-loop μ-loop
 returns-2 c =

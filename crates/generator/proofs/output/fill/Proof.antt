@@ -1,17 +1,20 @@
 -- `generator::output::fill` meets its contract.
 -- Assumes nothing.
 use mathlib.Core.Path.{_≡_, refl, sym, _∙_}
+use mathlib.Core.List.{List}
 use Prim.Native.Nat.{_+_, _-_, _/_, _%_, _≤_}
 use native.Mathlib.Nat.{add-zero, add-assoc}
+use native.Mathlib.Numerals.{add-one}
 use native.Mathlib.Omega.{arith}
 use lib.ListN.{length, take, drop, length-take, length-drop}
+use Rattle.laws.specs.Blocks.{blockCount}
+use Rattle.laws.proofs.Parts.{over, over-none, over-full, part-filled}
 use Rattle.word_cipher.specs.Cipher.{wordCipher}
 use Rattle.word_cipher.proofs.Laws.{length-word-cipher, overwrite-block}
 use Rattle.generator.specs.Counter.{value, littleEndian, maxCounter, counterBlock}
-use Rattle.generator.specs.Steps.{blockCount}
 use Rattle.generator.specs.Closed.{counters, enciphered}
 use Rattle.generator.proofs.Digits.{counter-value, value-counter, sixteen}
-use Rattle.generator.proofs.Parts.{over, over-none, over-full, part-filled}
+use Rattle.generator.proofs.Blocks.{enciphered-none, enciphered-more, length-enciphered}
 use borrow.Author.Needs.{needs}
 use Rattle.generator.proofs.output.fill.Statement.{statement}
 use Rattle.generator.proofs.output.fill.Tie as tie
@@ -28,8 +31,10 @@ abbrev μ-loop : tie.MeasureT-loop
 
 loop-holds : tie.Need-loop-holds Inv-loop μ-loop
 loop-holds c =
+    let a = c .before .args in
     let held = c .before .pre .1 in
-    (refl, omega arith, refl, over-none _ _ _, sym (rw add-zero (counter-value (c .before .args .counter .now) (held .0) (held .1))))
+    let none = enciphered-none (wordCipher (a .tables .now) (a .words .now)) (value (a .counter .now)) in
+    (refl, omega arith, refl, over-none _ ∙ rw none, sym (rw add-zero (counter-value (c .before .args .counter .now) (held .0) (held .1))))
 
 sub-part-size : tie.Need-sub-part-size Inv-loop μ-loop
 sub-part-size c = search needs
@@ -80,6 +85,8 @@ loop-again c =
     let end = l .at + sized .part-size .result in
     let part = take (end - l .at) (drop (l .at) (l .out)) in
     let ys = written .write-block .last .1 .1 .1 .0 in
+    let f : List _ → List _ = wordCipher t w in
+    let x = enciphered f (counters v k) in
     let limit : v + k ≤ maxCounter = omega arith in
     let next : (l .at + 16) / 16 ≡ k + 1 = omega arith in
     let size : length part ≡ end - l .at = simp (length-take, length-drop) (omega arith) in
@@ -88,9 +95,10 @@ loop-again c =
       omega arith,
       omega arith,
       search needs,
-      rw next
-          (part-filled (wordCipher t w) (length-word-cipher t w) v k (l .at) end out₀ (l .out) ys
-          (omega arith) (l .inv .3) (omega arith) (omega arith) block),
+      part-filled x (f (counterBlock (v + k))) out₀ (l .out) ys (l .at) end
+          (omega (arith, length-enciphered f (length-word-cipher t w) v k)) (length-word-cipher t w _)
+          (l .inv .3) (omega arith) (omega arith) block
+      ∙ rw (next, add-one k, enciphered-more f v k),
       c .step .ensures ∙ rw (next, l .inv .4, value-counter (v + k) limit, add-assoc),
     )
 
@@ -105,9 +113,13 @@ returns c =
     let out₀ = start .args .out .now in
     let t = start .args .tables .now in
     let w = start .args .words .now in
-    let all : ended .at / 16 ≡ blockCount (length out₀) = omega arith in (
+    let all : ended .at / 16 ≡ blockCount (length out₀) = omega arith in
+    let f : List _ → List _ = wordCipher t w in
+    let v = value (start .args .counter .now) in
+    let long : length out₀ ≤ length (enciphered f (counters v (blockCount (length out₀)))) =
+    rw (length-enciphered f (length-word-cipher t w) v (blockCount (length out₀))) (omega arith) in (
       rw (← all) (ended .inv .4),
-      ended .inv .3 ∙ rw all (over-full (wordCipher t w) (length-word-cipher t w) _ _ out₀ (omega arith)),
+      ended .inv .3 ∙ rw all (over-full _ out₀ long),
     )
 
 pub fill-spec : {M : Type 1} → statement M

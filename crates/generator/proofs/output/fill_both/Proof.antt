@@ -3,9 +3,9 @@
 use Prim.Native.Nat.{_+_, _≤_}
 use native.Mathlib.Omega.{arith}
 use lib.ListN.{length}
+use Rattle.laws.specs.Blocks.{blockCount}
 use Rattle.cipher.specs.Aes.{Bytes}
 use Rattle.generator.specs.Counter.{value, maxCounter}
-use Rattle.generator.specs.Steps.{blockCount}
 use Rattle.generator.proofs.Digits.{byte-lt, value-counter, sixteen}
 use Rattle.generator.proofs.UnderKey.{both-filled}
 use borrow.Author.Needs.{needs}

@@ -1,9 +1,9 @@
--- `generator::sizes::block_count` meets its contract.
+-- `laws::block_count` meets its contract.
 -- Assumes nothing.
-use Rattle.generator.specs.Steps.{blockCount}
+use Rattle.laws.specs.Blocks.{blockCount}
 use borrow.Author.Needs.{needs}
-use Rattle.generator.proofs.sizes.block_count.Statement.{statement}
-use Rattle.generator.proofs.sizes.block_count.Tie as tie
+use Rattle.laws.proofs.block_count.Statement.{statement}
+use Rattle.laws.proofs.block_count.Tie as tie
 
 add-result : tie.Need-add-result
 add-result c = search needs
