@@ -10,8 +10,6 @@ use native.Mathlib.Omega.{arith}
 use native.Mathlib.Decide.{decLt}
 use lib.Pow.{lt-of-le-ones}
 use lib.Dec.{eqb, ltb, lit<}
-use mir.Val.{Fits}
-use mir.Syntax.{w8}
 use lib.ListN.{length, getD, set, drop}
 use lib.Seq.{drop-cons}
 use borrow.Author.Tests.{ne-eqb, lt-ltb, le-ltb}
@@ -109,10 +107,6 @@ carry-on ps i v h full e =
     let p : 256 ^ (i + 1) ≡ 256 ^ i * 256 = rw add-one (pow-suc 256 i) in
     let s : value (set ps i 0) + 255 * 256 ^ i ≡ value ps + 0 * 256 ^ i = rw full at (value-set ps i 0 h) in
     omega (arith, p, s, e)
-
--- what a byte's type says of it
-pub byte-lt : {x : ℕ} → Fits w8 x → x < 256
-byte-lt f = f .fits
 
 bytes-little : (n v i : ℕ) → getD (littleEndian n v) i 0 < 256
 unfolding littleEndian

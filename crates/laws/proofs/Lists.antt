@@ -5,6 +5,8 @@ use mathlib.Core.Logic.{_≢_}
 use mathlib.Core.Bool.{true, true≢false}
 use mathlib.Core.List.{List, [], _∷_, _++_, append-assoc, append-nil, map}
 use Prim.Native.Nat.{ℕ, zero, suc, _<_}
+use mir.Val.{Fits}
+use mir.Syntax.{w8}
 use lib.Dec.{eqb}
 use lib.ListN.{length, getD, set, replicate, length-set, length-replicate, getD-replicate}
 use lib.Seq.{ext-getD, getD-set-same, getD-set-other}
@@ -59,7 +61,11 @@ module _ {A : Type 0} where
       read : (i : ℕ) → i < n → getD (replicate n x) i x ≡ getD (tabulate f n) i x
       read i h = getD-replicate n i x x h ∙ sym (getD-tabulate f x n i h ∙ e i)
 
--- ---- a store
+-- ---- bytes, and a store
+
+-- what a byte's type says of it
+pub byte-lt : {x : ℕ} → Fits w8 x → x < 256
+byte-lt f = f .fits
 
 -- where every element is below m, so it is after a store of one that is
 pub set-below : (m : ℕ) (ps : List ℕ) (i x : ℕ) → i < length ps → x < m → ((j : ℕ) → getD ps j 0 < m) → (j : ℕ) → getD (set ps i x) j 0 < m

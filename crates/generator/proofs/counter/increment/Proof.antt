@@ -1,6 +1,6 @@
 -- `generator::counter::increment` meets its contract.
 -- Assumes nothing.
-use Rattle.generator.proofs.Digits.{byte-lt}
+use Rattle.laws.proofs.Lists.{byte-lt}
 use borrow.Author.Needs.{needs}
 use Rattle.generator.proofs.counter.increment.Statement.{statement}
 use Rattle.generator.proofs.counter.increment.Tie as tie

@@ -98,7 +98,7 @@ loop-again c =
       part-filled x (f (counterBlock (v + k))) out₀ (l .out) ys (l .at) end
           (omega (arith, length-enciphered f (length-word-cipher t w) v k)) (length-word-cipher t w _)
           (l .inv .3) (omega arith) (omega arith) block
-      ∙ rw (next, add-one k, enciphered-more f v k),
+          ∙ rw (next, add-one k, enciphered-more f v k),
       c .step .ensures ∙ rw (next, l .inv .4, value-counter (v + k) limit, add-assoc),
     )
 

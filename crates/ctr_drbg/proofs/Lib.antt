@@ -1,0 +1,6 @@
+pub mod Digits
+pub mod Steps
+pub mod Accepted
+pub mod Effects
+pub mod Statements
+pub mod Boundaries

@@ -1,0 +1,50 @@
+-- What is proved of the definitions beside the code. Runs.antt has what is proved of lists of calls.
+-- Assumes nothing.
+use mathlib.Core.Path.{_≡_}
+use mathlib.Core.Logic.{_≢_}
+use mathlib.Core.List.{List, [], _∷_}
+use Prim.Native.Nat.{ℕ, _+_, _%_, _^_, _≤_, _<_}
+use lib.ListN.{length, getD}
+use Rattle.cipher.specs.Aes.{Bytes}
+use Rattle.ctr_drbg.specs.Counter.{octetsToInteger, integerToOctets, increment}
+use Rattle.ctr_drbg.specs.Algorithms.{padded, generateBlocks, update, prepared, generate}
+use Rattle.ctr_drbg.specs.Closed.{closedBlocks, closedUpdate, closedGenerate}
+use Rattle.ctr_drbg.specs.Refusals.{maxRequest}
+use Rattle.ctr_drbg.specs.Operations.{number}
+use Rattle.ctr_drbg.specs.declared.CtrDrbg.{CtrDrbg}
+use Rattle.ctr_drbg.specs.declared.update.Working.{Working}
+use Rattle.ctr_drbg.specs.declared.answer.Answer.{Answer}
+
+-- V as bytes and V as a number are the same thing, modulo 2^128
+pub record CounterEncoding : Type 0 where
+  -- the bytes of the number of 16 bytes are those bytes
+  pub bytesOfNumber : (v : List ℕ) → length v ≡ 16 → Bytes v → integerToOctets 16 (octetsToInteger v) ≡ v
+  -- the number of the 16 low bytes of x is x modulo 2^128
+  pub numberOfBytes : (x : ℕ) → octetsToInteger (integerToOctets 16 x) ≡ x % 2 ^ 128
+  -- a step adds 1
+  pub stepped : (v : List ℕ) → octetsToInteger (increment v) ≡ (octetsToInteger v + 1) % 2 ^ 128
+
+-- the standard's steps and the closed form are equal: bytes, Key, V and trace
+pub record ClosedForm : Type 0 where
+  pub blocks : (w : Working) (k : ℕ) → generateBlocks w k ≡ closedBlocks w k
+  pub updated : (provided : List ℕ) (w : Working) (k : ℕ) → update provided (generateBlocks w k .next) ≡ closedUpdate provided w k
+  pub request : (s : CtrDrbg) (n : ℕ) (additional : List ℕ) → generate s n additional ≡ closedGenerate s n additional
+
+-- every two places of a list differ
+abbrev pub Different : List (List ℕ) → Type 0
+Different l = (i j : ℕ) → i < j → j < length l → getD l i [] ≢ getD l j []
+
+-- between two updates no V is enciphered twice: not in up to 2^128 blocks, which the three of an update are, and not in a request's
+-- output with the update behind it, which have one Key
+pub record NoBlockTwice : Type 0 where
+  pub blocks : (w : Working) (k : ℕ) → k ≤ 2 ^ 128 → Different (generateBlocks w k .trace)
+  pub request : (s : CtrDrbg) (n : ℕ) (additional : List ℕ) → n ≤ maxRequest → Different (generate s n additional .trace)
+
+-- in a request an empty additional input is none, with no first update, and every other is one, zeros too
+pub record EmptyInput (w : Working) : Type 0 where
+  pub none : prepared [] w ≡ w
+  pub some : (x : ℕ) (xs : List ℕ) → prepared (x ∷ xs) w ≡ update (padded (x ∷ xs)) w
+
+-- different answers have different numbers
+abbrev pub NumberInjective : Type 0
+NumberInjective = (a b : Answer) → number a ≡ number b → a ≡ b
