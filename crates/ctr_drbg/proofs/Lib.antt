@@ -4,3 +4,4 @@ pub mod Accepted
 pub mod Effects
 pub mod Statements
 pub mod Boundaries
+pub mod Runs
