@@ -5,3 +5,4 @@ pub mod Effects
 pub mod Statements
 pub mod Boundaries
 pub mod Runs
+pub mod PublishedVector

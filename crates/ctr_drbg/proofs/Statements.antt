@@ -25,7 +25,7 @@ use Rattle.ctr_drbg.specs.declared.update.Working.{Working}
 use Rattle.ctr_drbg.specs.declared.answer.Answer.{Answer}
 use Rattle.ctr_drbg.specs.declared.answer.Answer.the-variants.{Done, RequestTooLong, EntropyLength, InputTooLong, SeedingNeeded}
 use Rattle.ctr_drbg.proofs.Digits.{integer-octets, octets-integer}
-use Rattle.ctr_drbg.proofs.Steps.{blocks-closed, update-closed, generate-closed}
+use Rattle.ctr_drbg.proofs.Steps.{blocks-closed, update-closed, instantiate-closed, reseed-closed, generate-closed}
 
 bytes-of-number : (v : List ℕ) → length v ≡ 16 → Bytes v → integerToOctets 16 (octetsToInteger v) ≡ v
 bytes-of-number v full bytes = rw (← full) (octets-integer v bytes)
@@ -38,7 +38,14 @@ pub counter-encoding : CounterEncoding
 counter-encoding = record { bytesOfNumber = bytes-of-number; numberOfBytes = integer-octets 16; stepped = step-number }
 
 pub closed-form : ClosedForm
-closed-form = record { blocks = λ w k. blocks-closed k w; updated = update-closed; request = generate-closed }
+closed-form =
+    record {
+      blocks = λ w k. blocks-closed k w;
+      updated = update-closed;
+      first = instantiate-closed;
+      reseeded = reseed-closed;
+      request = generate-closed;
+    }
 
 -- ---- no V twice
 

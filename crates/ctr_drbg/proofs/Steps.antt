@@ -5,15 +5,16 @@ use mathlib.Core.List.{List, [], _∷_, _++_, append-nil, append-assoc}
 use Prim.Native.Nat.{ℕ, zero, suc, _+_, _*_, _%_, _^_}
 use native.Mathlib.Nat.{add-zero, add-suc, mod-mod, mod-add-mod}
 use native.Mathlib.Omega.{arith}
-use lib.ListN.{length, length-append}
+use lib.ListN.{length, replicate, length-append}
 use Rattle.laws.specs.Lists.{tabulate, joined}
 use Rattle.laws.specs.Blocks.{blockCount}
 use Rattle.laws.proofs.Lists.{joined-append, joined-one}
 use Rattle.laws.proofs.Tabulate.{tabulate-ext}
 use Rattle.cipher.specs.Aes.{Bytes, cipher}
 use Rattle.ctr_drbg.specs.Counter.{octetsToInteger, integerToOctets, increment}
-use Rattle.ctr_drbg.specs.Algorithms.{Generated, Returned, padded, workingOf, working, generateBlocks, update, prepared, generate}
-use Rattle.ctr_drbg.specs.Closed.{after, counterBlocks, enciphered, closedBlocks, closedUpdate, closedGenerate}
+use Rattle.ctr_drbg.specs.Algorithms.{Generated, Returned, padded, divided, workingOf, working, stateOf, generateBlocks, update, zeroWorking, instantiate, reseed, prepared, generate}
+use Rattle.ctr_drbg.specs.Closed.{after, counterBlocks, enciphered, closedBlocks, closedUpdate, closedReseed, closedGenerate}
+use Rattle.ctr_drbg.specs.Operations.{fresh}
 use Rattle.ctr_drbg.specs.declared.CtrDrbg.{CtrDrbg}
 use Rattle.ctr_drbg.specs.declared.update.Working.{Working}
 use Rattle.ctr_drbg.proofs.Digits.{integer-octets, bytes-octets}
@@ -87,6 +88,14 @@ counter-blocks-add v k (suc m) =
 pub update-closed : (provided : List ℕ) (w : Working) (k : ℕ) → update provided (generateBlocks w k .next) ≡ closedUpdate provided w k
 unfolding update closedUpdate closedBlocks
 update-closed provided w k = rw (blocks-closed k w, blocks-closed 3 (workingOf (w .key) (after (w .v) k)))
+
+pub reseed-closed : (s : CtrDrbg) (entropy additional : List ℕ) → reseed s entropy additional ≡ closedReseed s entropy additional
+unfolding reseed stateOf working update divided closedReseed closedBlocks
+reseed-closed s entropy additional = rw (blocks-closed 3 (workingOf (s .key) (s .v)))
+
+pub instantiate-closed : (entropy personalization : List ℕ) → instantiate entropy personalization ≡ closedReseed fresh entropy personalization
+unfolding instantiate zeroWorking stateOf update divided closedReseed closedBlocks fresh
+instantiate-closed entropy personalization = rw (blocks-closed 3 (workingOf (replicate 32 0) (replicate 16 0)))
 
 pub generate-closed : (s : CtrDrbg) (n : ℕ) (additional : List ℕ) → generate s n additional ≡ closedGenerate s n additional
 unfolding generate closedGenerate closedBlocks

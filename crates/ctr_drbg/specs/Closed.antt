@@ -2,7 +2,7 @@
 -- Assumes nothing.
 use mathlib.Core.List.{List}
 use Prim.Native.Nat.{ℕ, zero, suc, _+_, _%_, _^_}
-use lib.ListN.{take}
+use lib.ListN.{take, drop}
 use Rattle.laws.specs.Lists.{tabulate, joined}
 use Rattle.laws.specs.Blocks.{blockCount}
 use Rattle.cipher.specs.Aes.{cipher}
@@ -35,6 +35,12 @@ closedBlocks w k =
 -- Key and V updated behind k blocks of output: the next three blocks, with the provided data
 unfoldable pub closedUpdate : List ℕ → Working → ℕ → Working
 closedUpdate provided w k = divided (xored (enciphered (cipher (w .key)) (after (w .v) k) 3) provided)
+
+-- a reseed, written out
+unfoldable pub closedReseed : CtrDrbg → List ℕ → List ℕ → CtrDrbg
+closedReseed s entropy additional =
+    let temp = xored (enciphered (cipher (s .key)) (s .v) 3) (xored entropy (padded additional)) in
+    record { key = take 32 temp; v = drop 32 temp; «reseed_counter» = 1 }
 
 -- a request, from Key and V as its first update left them
 unfoldable pub closedGenerate : CtrDrbg → ℕ → List ℕ → Returned

@@ -6,3 +6,4 @@ pub mod Operations
 pub mod Runs
 pub mod Statements
 pub mod Boundaries
+pub mod PublishedVector

@@ -7,10 +7,10 @@ use Prim.Native.Nat.{ℕ, _+_, _%_, _^_, _≤_, _<_}
 use lib.ListN.{length, getD}
 use Rattle.cipher.specs.Aes.{Bytes}
 use Rattle.ctr_drbg.specs.Counter.{octetsToInteger, integerToOctets, increment}
-use Rattle.ctr_drbg.specs.Algorithms.{padded, generateBlocks, update, prepared, generate}
-use Rattle.ctr_drbg.specs.Closed.{closedBlocks, closedUpdate, closedGenerate}
+use Rattle.ctr_drbg.specs.Algorithms.{padded, generateBlocks, update, instantiate, reseed, prepared, generate}
+use Rattle.ctr_drbg.specs.Closed.{closedBlocks, closedUpdate, closedReseed, closedGenerate}
 use Rattle.ctr_drbg.specs.Refusals.{maxRequest}
-use Rattle.ctr_drbg.specs.Operations.{number}
+use Rattle.ctr_drbg.specs.Operations.{number, fresh}
 use Rattle.ctr_drbg.specs.declared.CtrDrbg.{CtrDrbg}
 use Rattle.ctr_drbg.specs.declared.update.Working.{Working}
 use Rattle.ctr_drbg.specs.declared.answer.Answer.{Answer}
@@ -28,6 +28,9 @@ pub record CounterEncoding : Type 0 where
 pub record ClosedForm : Type 0 where
   pub blocks : (w : Working) (k : ℕ) → generateBlocks w k ≡ closedBlocks w k
   pub updated : (provided : List ℕ) (w : Working) (k : ℕ) → update provided (generateBlocks w k .next) ≡ closedUpdate provided w k
+  -- a first seeding is a reseed of the state before any
+  pub first : (entropy personalization : List ℕ) → instantiate entropy personalization ≡ closedReseed fresh entropy personalization
+  pub reseeded : (s : CtrDrbg) (entropy additional : List ℕ) → reseed s entropy additional ≡ closedReseed s entropy additional
   pub request : (s : CtrDrbg) (n : ℕ) (additional : List ℕ) → generate s n additional ≡ closedGenerate s n additional
 
 -- every two places of a list differ
