@@ -15,9 +15,10 @@ from pathlib import Path
 
 ROOT = Path(__file__).resolve().parents[2]
 STORED = ROOT / "tests/gate/opened.txt"
-TABLES = {"Boundaries.antt", "Computing.antt", "Examples.antt", "QuotaRows.antt", "Readings.antt"}
+TABLES = {"Boundaries.antt", "Computing.antt", "Examples.antt", "PublishedVector.antt", "QuotaRows.antt", "Readings.antt"}
 IMPORT = re.compile(r"^use Rattle·(\w+)\.(?:specs|proofs)\.[\w.-]+?(?:\.\{([^}]*)\}| as (\S+))$", re.M)
-OPENED = re.compile(r"^\s*unfolding (.*)$|\bunfold ((?:\S+ )+?)in\b", re.M)
+# an `unfolding` goes on in lines that are indented further
+OPENED = re.compile(r"^( *)unfolding (.*(?:\n\1 +.*)*)$|\bunfold ((?:\S+ )+?)in\b", re.M)
 
 
 def imported(text):
@@ -35,7 +36,7 @@ def imported(text):
 def opened_in(text):
     """Pairs of a crate and a definition of it that the file opens."""
     names, modules = imported(text)
-    for whole, part in OPENED.findall(text):
+    for _, whole, part in OPENED.findall(text):
         for name in (whole or part).split():
             module, _, inner = name.partition(".")
             if name in names:
