@@ -64,10 +64,12 @@ apart a d m pos less e =
 steps-apart : (v : List ℕ) (i j : ℕ) → i < j → j < 2 ^ 128 → after v (suc i) ≢ after v (suc j)
 unfolding after
 steps-apart v i j h k e =
-    let values : (x : ℕ) → octetsToInteger (integerToOctets 16 (x % 2 ^ 128)) ≡ x % 2 ^ 128 = λ x. integer-octets 16 (x % 2 ^ 128) ∙ mod-mod x (2 ^ 128) in
-    let f : (octetsToInteger v + suc i) % 2 ^ 128 ≡ (octetsToInteger v + suc j) % 2 ^ 128 = sym (values (octetsToInteger v + suc i)) ∙ ap octetsToInteger e ∙ values (octetsToInteger v + suc j) in
-    let g : octetsToInteger v + suc i + (j - i) ≡ octetsToInteger v + suc j = omega arith in
-    apart (octetsToInteger v + suc i) (j - i) (2 ^ 128) (omega arith) (less (2 ^ 128) k) (rw g (sym f))
+    let x : ℕ = octetsToInteger v in
+    let number : (y : ℕ) → octetsToInteger (integerToOctets 16 (y % 2 ^ 128)) ≡ y % 2 ^ 128
+    = λ y. integer-octets 16 (y % 2 ^ 128) ∙ mod-mod y (2 ^ 128) in
+    let same : (x + suc i) % 2 ^ 128 ≡ (x + suc j) % 2 ^ 128 = sym (number (x + suc i)) ∙ ap octetsToInteger e ∙ number (x + suc j) in
+    let further : x + suc i + (j - i) ≡ x + suc j = omega arith in
+    apart (x + suc i) (j - i) (2 ^ 128) (omega arith) (less (2 ^ 128) k) (rw further (sym same))
   where
     less : (m : ℕ) → j < m → j - i < m
     less m l = omega arith

@@ -16,8 +16,10 @@ is-done-requires c κs = search needs
 
 served-requires : tie.Need-served-requires
 served-requires c κs =
-    let done = c .before .before .is-done in
-    generate-fits _ _ _ (accepted _ _ (done .result) (c .before .before .before .generate-answer .ensures) (done .ensures) (c .before .if1 .taken))
+    let branch = c .before in
+    let asked = branch .before in
+    let done = asked .is-done in
+    generate-fits _ _ _ (accepted _ _ (done .result) (asked .before .generate-answer .ensures) (done .ensures) (branch .if1 .taken))
 
 same-length : tie.Need-same-length
 same-length c = search needs
@@ -25,10 +27,13 @@ same-length c = search needs
 returns : tie.Need-returns
 unfolding generateAnswer generated generateBuffer
 returns c =
-    let n = c .before .before .before .before .before .before .generate-answer in
-    let done = c .before .before .before .before .before .is-done in
-    let t = c .before .before .before .before .if1 .taken in
-    let f = c .before .before .served .ensures in (
+    let filled = c .before .before in
+    let branch = filled .before .before in
+    let asked = branch .before in
+    let n = asked .before .generate-answer in
+    let done = asked .is-done in
+    let t = branch .if1 .taken in
+    let f = filled .served .ensures in (
       n .ensures,
       f .0 ∙ guarded-done _ _ (done .result) _ _ (n .ensures) (done .ensures) t,
       f .1 ∙ guarded-done _ _ (done .result) _ _ (n .ensures) (done .ensures) t,
@@ -37,8 +42,9 @@ returns c =
 returns-2 : tie.Need-returns-2
 unfolding generateAnswer generated generateBuffer
 returns-2 c =
-    let n = c .before .before .generate-answer in
-    let done = c .before .is-done in
+    let asked = c .before in
+    let n = asked .before .generate-answer in
+    let done = asked .is-done in
     let t = c .if1 .left in (
       n .ensures,
       guarded-refused _ _ (done .result) _ _ (n .ensures) (done .ensures) t,

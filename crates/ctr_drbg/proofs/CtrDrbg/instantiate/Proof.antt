@@ -17,21 +17,25 @@ is-done-requires c κs = search needs
 
 seeded-requires : tie.Need-seeded-requires
 seeded-requires c κs =
-    let done = c .before .is-done in
-    instantiate-fits _ _ (accepted _ _ (done .result) (c .before .before .instantiate-answer .ensures) (done .ensures) (c .if1 .taken))
+    let asked = c .before in
+    let done = asked .is-done in
+    instantiate-fits _ _ (accepted _ _ (done .result) (asked .before .instantiate-answer .ensures) (done .ensures) (c .if1 .taken))
 
 returns : tie.Need-returns
 unfolding instantiateAnswer instantiated instantiate zeroWorking
 returns c =
-    let n = c .before .before .before .instantiate-answer in
-    let done = c .before .before .is-done in
-    (n .ensures, c .seeded .ensures ∙ guarded-done _ _ (done .result) _ _ (n .ensures) (done .ensures) (c .before .if1 .taken))
+    let branch = c .before in
+    let asked = branch .before in
+    let n = asked .before .instantiate-answer in
+    let done = asked .is-done in
+    (n .ensures, c .seeded .ensures ∙ guarded-done _ _ (done .result) _ _ (n .ensures) (done .ensures) (branch .if1 .taken))
 
 returns-2 : tie.Need-returns-2
 unfolding instantiateAnswer instantiated instantiate zeroWorking
 returns-2 c =
-    let n = c .before .before .instantiate-answer in
-    let done = c .before .is-done in
+    let asked = c .before in
+    let n = asked .before .instantiate-answer in
+    let done = asked .is-done in
     (n .ensures, guarded-refused _ _ (done .result) _ _ (n .ensures) (done .ensures) (c .if1 .left))
 
 pub instantiate-spec : {M : Type 1} → statement M

@@ -17,21 +17,26 @@ is-done-requires c κs = search needs
 
 seeded-requires : tie.Need-seeded-requires
 seeded-requires c κs =
-    let done = c .before .before .before .is-done in
-    reseed-fits _ _ _ (accepted _ _ (done .result) (c .before .before .before .before .reseed-answer .ensures) (done .ensures) (c .before .before .if1 .taken))
+    let branch = c .before .before in
+    let asked = branch .before in
+    let done = asked .is-done in
+    reseed-fits _ _ _ (accepted _ _ (done .result) (asked .before .reseed-answer .ensures) (done .ensures) (branch .if1 .taken))
 
 returns : tie.Need-returns
 unfolding reseedAnswer reseeded reseed working
 returns c =
-    let n = c .before .before .before .before .before .reseed-answer in
-    let done = c .before .before .before .before .is-done in
-    (n .ensures, c .seeded .ensures ∙ guarded-done _ _ (done .result) _ _ (n .ensures) (done .ensures) (c .before .before .before .if1 .taken))
+    let branch = c .before .before .before in
+    let asked = branch .before in
+    let n = asked .before .reseed-answer in
+    let done = asked .is-done in
+    (n .ensures, c .seeded .ensures ∙ guarded-done _ _ (done .result) _ _ (n .ensures) (done .ensures) (branch .if1 .taken))
 
 returns-2 : tie.Need-returns-2
 unfolding reseedAnswer reseeded reseed working
 returns-2 c =
-    let n = c .before .before .reseed-answer in
-    let done = c .before .is-done in
+    let asked = c .before in
+    let n = asked .before .reseed-answer in
+    let done = asked .is-done in
     (n .ensures, guarded-refused _ _ (done .result) _ _ (n .ensures) (done .ensures) (c .if1 .left))
 
 pub reseed-spec : {M : Type 1} → statement M

@@ -26,7 +26,8 @@ add-state-of c =
     let filled = c .before .before .before in
     let first = filled .before .before .before .before .before in
     let given = first .before .before in
-    let start = given .before .before .before .before .before .before in
+    let tabled = given .before .before .before in
+    let start = tabled .before .before .before in
     record { fits = omega (arith, start .pre .0) }
 
 state-of-requires : tie.Need-state-of-requires
@@ -41,7 +42,8 @@ returns c =
     let filled = c .before .before .before .before in
     let first = filled .before .before .before .before .before in
     let given = first .before .before in
-    let start = given .before .before .before .before .before .before in
+    let tabled = given .before .before .before in
+    let start = tabled .before .before .before in
     let f = filled .fill-and-update .ensures in
     served-is (start .args .self) _ _ (start .args .additional .now) _ _ _ _ (given .padded .ensures) (first .prepared .ensures)
     (f .0) (f .1) (c .state-of .ensures)

@@ -30,7 +30,10 @@ overwrite-requires-2 : tie.Need-overwrite-requires-2
 overwrite-requires-2 c κs = search needs
 
 returns : tie.Need-returns
-returns c = divided-is _ _ _ (search needs) (c .before .before .before .before .before .before .overwrite .ensures) (c .before .overwrite2 .ensures)
+returns c =
+    let behind = c .before in
+    let front = behind .before .before .before .before .before in
+    divided-is _ _ _ (search needs) (front .overwrite .ensures) (behind .overwrite2 .ensures)
 
 pub divided-spec : {M : Type 1} → statement M
 divided-spec =

@@ -35,7 +35,8 @@ returns : tie.Need-returns
 returns c =
     let mixed = c .before in
     let three = mixed .before .before in
-    let output = three .before .before .before .before .before .before in
+    let shown = three .before .before .before .before in
+    let output = shown .before .before in
     let expanded = output .before .before .before .before in
     let start = expanded .before .before in
     let a = start .args in
