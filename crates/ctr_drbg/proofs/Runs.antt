@@ -1,6 +1,6 @@
 -- The statements of specs/Runs.antt hold: the reseed counter tells what the log of seedings has.
 -- Assumes nothing.
-use mathlib.Core.Path.{_≡_, refl, sym, ap, ap₂, _∙_}
+use mathlib.Core.Path.{_≡_, refl, ap, ap₂, _∙_}
 use mathlib.Core.Logic.{_≢_}
 use mathlib.Core.Bool.{Bool, true, false, not, cond}
 use mathlib.Core.List.{List, [], _∷_}
@@ -10,12 +10,12 @@ use native.Mathlib.Decide.{decLt}
 use native.Mathlib.Omega.{arith}
 use lib.Dec.{eqb, ltb, leb}
 use lib.ListN.{length, replicate}
-use borrow.Author.Tests.{eqb-true, eqb-false, eq-eqb, ne-eqb, le-ltb, lt-ltb, le-leb, lt-leb, ltb-false}
+use borrow.Author.Tests.{eqb-true, eqb-false, ne-eqb, le-ltb, lt-ltb, le-leb, lt-leb, ltb-false}
 use Rattle.laws.specs.Lists.{countOf}
-use Rattle.laws.specs.Refusals.{refuse, guarded}
+use Rattle.laws.specs.Refusals.{refuse}
 use Rattle.laws.proofs.Cases.{by-test}
 use Rattle.laws.proofs.Refusals.{passed}
-use Rattle.ctr_drbg.specs.Algorithms.{seedLength, stateOf, zeroWorking, instantiate, reseed, generate}
+use Rattle.ctr_drbg.specs.Algorithms.{seedLength, stateOf, instantiate, reseed, generate}
 use Rattle.ctr_drbg.specs.Refusals.{maxRequest, reseedInterval, neverSeeded, reseedRequired, instantiateNumber, reseedNumber, generateNumber}
 use Rattle.ctr_drbg.specs.Operations.{fresh, instantiateAnswer, instantiated, reseedAnswer, reseeded, generateAnswer, generated}
 use Rattle.ctr_drbg.specs.Runs.{Call, instantiation, reseeding, request, callNumber, callNext, numbersFrom, Seedings, logNumber, logEntry, logged, loggedNumbers, noSeeding, RunNumbers, requests, Sized, Interval}

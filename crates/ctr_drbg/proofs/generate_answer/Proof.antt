@@ -5,7 +5,6 @@ use borrow.Author.Tests.{lt-ltb, le-ltb, eq-eqb, ne-eqb}
 use Rattle.ctr_drbg.specs.Algorithms.{seedLength}
 use Rattle.ctr_drbg.specs.Refusals.{maxRequest, reseedInterval, neverSeeded, reseedRequired, generateNumber}
 use Rattle.ctr_drbg.specs.Operations.{number}
-use borrow.Author.Needs.{needs}
 use Rattle.ctr_drbg.proofs.generate_answer.Statement.{statement}
 use Rattle.ctr_drbg.proofs.generate_answer.Tie as tie
 

@@ -1,6 +1,5 @@
 -- `ctr_drbg::state_of` meets its contract.
 -- Assumes nothing.
-use mathlib.Core.Path.{refl}
 use Rattle.ctr_drbg.specs.Algorithms.{stateOf}
 use borrow.Author.Needs.{needs}
 use Rattle.ctr_drbg.proofs.state_of.Statement.{statement}

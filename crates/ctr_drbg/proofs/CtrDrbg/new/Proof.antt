@@ -3,7 +3,6 @@
 use mathlib.Core.Path.{refl}
 use Rattle.ctr_drbg.specs.Algorithms.{stateOf, zeroWorking}
 use Rattle.ctr_drbg.specs.Operations.{fresh}
-use borrow.Author.Needs.{needs}
 use Rattle.ctr_drbg.proofs.CtrDrbg.new.Statement.{statement}
 use Rattle.ctr_drbg.proofs.CtrDrbg.new.Tie as tie
 

@@ -1,7 +1,5 @@
 -- `ctr_drbg::seed::padded` meets its contract.
 -- Assumes nothing.
-use mathlib.Core.Path.{_∙_}
-use lib.ListN.{replicate}
 use Rattle.ctr_drbg.proofs.Effects.{padded-is}
 use borrow.Author.Needs.{needs}
 use Rattle.ctr_drbg.proofs.seed.padded.Statement.{statement}
