@@ -82,8 +82,7 @@ def entropies(noise):
 def others(noise):
     """Lengths of personalization and additional input at all calls."""
     kept = seeded(noise)
-    for size in (*BESIDE, SEED):
-        data = noise.take(size) if size else b""
+    for data in map(noise.take, BESIDE):
         yield from (script.new(), script.instantiate(noise.take(SEED), data))
         yield from (script.state(kept), script.reseed(noise.take(SEED), data))
         yield from (script.state(kept), script.generate(20, data))
@@ -139,20 +138,20 @@ def orders(noise):
     yield from (script.state(seeded(noise)), script.reseed(good[1:], long), script.generate(MOST_BYTES + 1, long))
 
 
-def before_carry(noise, bits, steps):
-    """A V whose carry leaves the last so many bits at this step. The bits before them are neither all 0 nor all 1."""
-    front = b"\x61" + noise.take(BLOCK)
-    return ((int.from_bytes(front[: BLOCK - bits // 8], "big") << bits) + 2**bits - steps).to_bytes(BLOCK, "big")
+def before_carry(bits, steps):
+    """A V of which just the last so many bits carry at this step."""
+    front = b"\x61" * (BLOCK - bits // 8)
+    return front + (2**bits - steps).to_bytes(bits // 8, "big")
 
 
 def carries(noise):
-    """V before each carry, at each of the three blocks of output and of the updates, by one Key."""
-    key = b"\x42" * KEY
+    """V before each carry, at each block of an output of three and of an update's three."""
+    key = noise.take(1) * KEY
     for bits in CARRIES:
         for steps in range(1, 7):  # three in the output, three in the update behind it
-            yield from (script.state(State(key, before_carry(noise, bits, steps), 1)), script.generate(48))
+            yield from (script.state(State(key, before_carry(bits, steps), 1)), script.generate(48))
         for steps in range(1, 4):
-            kept = State(key, before_carry(noise, bits, steps), 1)
+            kept = State(key, before_carry(bits, steps), 1)
             yield from (script.state(kept), script.reseed(b"\x5c" * SEED))
             yield from (script.state(kept), script.generate(1, b"\x71"))
 
@@ -167,15 +166,14 @@ def carries_by_calls(noise):
     """V before a carry by an instantiate, a reseed and a first update, so that no state is set by hand."""
     drbg = CtrDrbg()
     for bits in (8, 16, 32, 64, 96, 128):
-        key, kept = noise.take(KEY), NEW
-        entropy = entropy_for(key, before_carry(noise, bits, 2))
+        entropy = entropy_for(noise.take(KEY), before_carry(bits, 2))
         yield from (script.new(), script.instantiate(entropy), script.generate(48))
-        kept = drbg.generate(drbg.instantiate(kept, entropy, b"").next, 48, b"").next
-        additional = brought_to(kept, before_carry(noise, bits, 1))
+        kept = drbg.generate(drbg.instantiate(NEW, entropy, b"").next, 48, b"").next
+        additional = brought_to(kept, before_carry(bits, 1))
         yield from (script.reseed(bytes(SEED), additional), script.generate(48))
         kept = drbg.generate(drbg.reseed(kept, bytes(SEED), additional).next, 48, b"").next
         for steps in (2, 5):
-            additional = brought_to(kept, before_carry(noise, bits, steps))
+            additional = brought_to(kept, before_carry(bits, steps))
             yield script.generate(48, additional)
             kept = drbg.generate(kept, 48, additional).next
 
@@ -184,7 +182,7 @@ def long_requests(noise):
     """V before a carry late in the longest request, and in the update behind it; the bytes are told by a digest."""
     for bits in (16, 32, 64, 96, 128):
         for steps in (MOST_BYTES // BLOCK, MOST_BYTES // BLOCK + 2):
-            kept = State(b"\x42" * KEY, before_carry(noise, bits, steps), INTERVAL)
+            kept = State(noise.take(KEY), before_carry(bits, steps), INTERVAL)
             yield from (script.state(kept), script.generate(MOST_BYTES))
 
 
@@ -252,6 +250,8 @@ def check_vectors(ask):
     """Holds the answers to the vectors; ask gives the answers to a script."""
     known = list(vectors())
     answers = ask(log_of(line for vector in known for line in vector.script)).splitlines()
+    if len(answers) != sum(len(vector.script) for vector in known):
+        raise Failure(f"{len(answers)} answers came to the calls of {VECTORS.name}")
     done = 0
     for vector in known:
         done += len(vector.script)
