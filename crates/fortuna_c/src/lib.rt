@@ -1,6 +1,7 @@
 // The C interface: include/fortuna.h says the same in C's words.
 mod aes256;
 mod aes256_bytewise;
+mod ctr_drbg_calls;
 mod fortuna_generator;
 mod health_tests;
 mod metered_calls;
@@ -13,6 +14,10 @@ pub use aes256::fortuna_aes256_block;
 pub use aes256::fortuna_aes256_expand;
 pub use aes256_bytewise::fortuna_aes256_bytewise_block;
 pub use aes256_bytewise::fortuna_aes256_bytewise_expand;
+pub use ctr_drbg_calls::fortuna_ctr_drbg_generate;
+pub use ctr_drbg_calls::fortuna_ctr_drbg_instantiate;
+pub use ctr_drbg_calls::fortuna_ctr_drbg_new;
+pub use ctr_drbg_calls::fortuna_ctr_drbg_reseed;
 pub use fortuna_generator::FortunaGeneratorOutcome;
 pub use fortuna_generator::fortuna_generator_blocks;
 pub use fortuna_generator::fortuna_generator_new;
