@@ -87,17 +87,23 @@ update-alone provided w r e = e
 
 -- a seeding, as the code makes it
 pub seeded-is : (key v entropy other first second material : List ℕ) (next : Working) (s : CtrDrbg) → length entropy ≡ seedLength
-    → first ≡ padded entropy → second ≡ padded other → material ≡ xored first second → next ≡ update material (workingOf key v)
+    → first ≡ padded entropy → second ≡ padded other → material ≡ xored first second
+    → next ≡ update material (generateBlocks (preparedBy 0 material (workingOf key v)) (blockCount 0) .next)
     → s ≡ stateOf next 1 → s ≡ stateOf (update (xored entropy (padded other)) (workingOf key v)) 1
+unfolding preparedBy
 seeded-is key v entropy other first second material next s full p q mix n e =
-    e ∙ rw (n, mix, p, q, padded-full entropy full)
+    e ∙ rw (update-alone material (workingOf key v) next n, mix, p, q, padded-full entropy full)
+
+-- from Key and V as the first update left them
+pub advanced-is : (n : ℕ) (provided ys : List ℕ) (first prepared next : Working) → first ≡ prepared
+    → next ≡ update provided (generateBlocks first (blockCount n) .next) → ys ≡ take n (generateBlocks first (blockCount n) .bytes)
+    → (next ≡ update provided (generateBlocks prepared (blockCount n) .next)) × (ys ≡ take n (generateBlocks prepared (blockCount n) .bytes))
+advanced-is n provided ys first prepared next f u o = (u ∙ rw f, o ∙ rw f)
 
 -- a request of n bytes, as the code makes it
-pub served-is : (s r : CtrDrbg) (n : ℕ) (additional provided ys : List ℕ) (first next : Working) → provided ≡ padded additional
-    → first ≡ preparedBy (length additional) provided (working s) → next ≡ update provided (generateBlocks first (blockCount n) .next)
-    → ys ≡ take n (generateBlocks first (blockCount n) .bytes) → r ≡ stateOf next (s .«reseed_counter» + 1)
-    → (r ≡ generate s n additional .next) × (ys ≡ generate s n additional .bytes)
+pub served-is : (s r : CtrDrbg) (n : ℕ) (additional provided ys : List ℕ) (next : Working) → provided ≡ padded additional
+    → next ≡ update provided (generateBlocks (preparedBy (length additional) provided (working s)) (blockCount n) .next)
+    → ys ≡ take n (generateBlocks (preparedBy (length additional) provided (working s)) (blockCount n) .bytes)
+    → r ≡ stateOf next (s .«reseed_counter» + 1) → (r ≡ generate s n additional .next) × (ys ≡ generate s n additional .bytes)
 unfolding generate
-served-is s r n additional provided ys first next p f u o e =
-    let g : first ≡ prepared additional (working s) = f ∙ rw p in
-    (e ∙ rw (u, p, g), o ∙ rw g)
+served-is s r n additional provided ys next p u o e = (e ∙ rw (u, p), o ∙ rw p)

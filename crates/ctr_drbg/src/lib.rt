@@ -14,9 +14,10 @@ use update::fill_and_update;
 use update::update;
 ghost use mathlib.Core.Path.{_≡_};
 ghost use Prim.Native.Nat.{_≤_};
-ghost use lib.ListN.{length};
+ghost use lib.ListN.{length, take};
+ghost use Rattle.laws.specs.Blocks.{blockCount};
 ghost use Rattle.word_cipher.specs.Tables.{tables};
-ghost use Rattle.ctr_drbg.specs.Algorithms.{seedLength, xored, padded, update, workingOf, stateOf, preparedBy, generate};
+ghost use Rattle.ctr_drbg.specs.Algorithms.{seedLength, xored, padded, generateBlocks, update, workingOf, stateOf, preparedBy, generate};
 ghost use Rattle.ctr_drbg.specs.Refusals.{reseedInterval, instantiateNumber, reseedNumber, generateNumber};
 ghost use Rattle.ctr_drbg.specs.Operations.{number, fresh, instantiateAnswer, instantiated, reseedAnswer, reseeded, generateAnswer, generated, generateBuffer};
 
@@ -100,16 +101,6 @@ fn state_of(w: Working, counter: u64) -> CtrDrbg
     }
 }
 
-// The state after a seeding from Key and V, where it is accepted.
-fn seeded(key: [u8; 32], v: [u8; 16], entropy: &[u8], other: &[u8]) -> CtrDrbg
-    requires { ⌜ (length (now entropy) ≡ seedLength) × (length (now other) ≤ seedLength) ⌝ }
-    ensures { λ r. ⌜ r ≡ stateOf (update (xored (now (entropy .entry)) (padded (now (other .entry)))) (workingOf key v)) 1 ⌝ }
-{
-    let t = word_cipher::tables();
-    let material = xored(padded(entropy), padded(other));
-    state_of(update(&t, key, v, material), 1)
-}
-
 // Key and V before the output: updated where there is additional input, of which there are m bytes.
 fn prepared(t: &[u32; 1024], key: [u8; 32], v: [u8; 16], m: usize, provided: [u8; 48]) -> Working
     requires { ⌜ now t ≡ tables ⌝ }
@@ -119,6 +110,30 @@ fn prepared(t: &[u32; 1024], key: [u8; 32], v: [u8; 16], m: usize, provided: [u8
         return Working { key, v };
     }
     update(t, key, v, provided)
+}
+
+// Steps 2 to 6 of a request, with m bytes of additional input: the buffer is filled, and Key and V are updated. A seeding is the same
+// with none and an empty buffer: so the cipher's tables, 4 KB of code, are built at this one place, once for each call.
+fn advance(key: [u8; 32], v: [u8; 16], m: usize, provided: [u8; 48], out: &mut [u8]) -> Working
+    ensures { λ r. ⌜ (r ≡ update provided (generateBlocks (preparedBy m provided (workingOf key v)) (blockCount (length (now (out .entry)))) .next))
+        × (now (out .exit) ≡ take (length (now (out .entry)))
+        (generateBlocks (preparedBy m provided (workingOf key v)) (blockCount (length (now (out .entry)))) .bytes)) ⌝ }
+{
+    let t = word_cipher::tables();
+    let first = prepared(&t, key, v, m, provided);
+    let first_key = first.key;
+    let first_v = first.v;
+    fill_and_update(&t, first_key, first_v, provided, out)
+}
+
+// The state after a seeding from Key and V, where it is accepted.
+fn seeded(key: [u8; 32], v: [u8; 16], entropy: &[u8], other: &[u8]) -> CtrDrbg
+    requires { ⌜ (length (now entropy) ≡ seedLength) × (length (now other) ≤ seedLength) ⌝ }
+    ensures { λ r. ⌜ r ≡ stateOf (update (xored (now (entropy .entry)) (padded (now (other .entry)))) (workingOf key v)) 1 ⌝ }
+{
+    let material = xored(padded(entropy), padded(other));
+    let mut none = [0u8; 0];
+    state_of(advance(key, v, 0, material, &mut none), 1)
 }
 
 impl CtrDrbg {
@@ -139,14 +154,10 @@ impl CtrDrbg {
         ensures { λ r. ⌜ (r ≡ generate self (length (now (out .entry))) (now (additional .entry)) .next)
             × (now (out .exit) ≡ generate self (length (now (out .entry))) (now (additional .entry)) .bytes) ⌝ }
     {
-        let t = word_cipher::tables();
         let key = self.key;
         let v = self.v;
         let provided = padded(additional);
-        let first = prepared(&t, key, v, additional.len(), provided);
-        let first_key = first.key;
-        let first_v = first.v;
-        let next = fill_and_update(&t, first_key, first_v, provided, out);
+        let next = advance(key, v, additional.len(), provided, out);
         state_of(next, self.reseed_counter + 1)
     }
 

@@ -5,9 +5,6 @@ use borrow.Author.Needs.{needs}
 use Rattle.ctr_drbg.proofs.seeded.Statement.{statement}
 use Rattle.ctr_drbg.proofs.seeded.Tie as tie
 
-tables-requires : tie.Need-tables-requires
-tables-requires c κs = search needs
-
 padded-requires : tie.Need-padded-requires
 padded-requires c κs = search needs
 
@@ -17,30 +14,33 @@ padded-requires-2 c κs = search needs
 xored-requires : tie.Need-xored-requires
 xored-requires c κs = search needs
 
-update-requires : tie.Need-update-requires
-update-requires c κs = search needs
+slice-aggregate-advance : tie.Need-slice-aggregate-advance
+slice-aggregate-advance c = search needs
+
+advance-requires : tie.Need-advance-requires
+advance-requires c κs = search needs
 
 state-of-requires : tie.Need-state-of-requires
 state-of-requires c κs = search needs
 
 returns : tie.Need-returns
 returns c =
-    let updated = c .before in
-    let mixed = updated .before .before in
+    let advanced = c .before .before in
+    let mixed = advanced .before .before in
     let second = mixed .before in
     let first = second .before in
-    let start = first .before .before .before .before in
+    let start = first .before .before .before in
     seeded-is (start .args .key) (start .args .v) (start .args .entropy .now) (start .args .other .now) _ _ _ _ _ (start .pre .0)
-    (first .padded .ensures) (second .padded2 .ensures) (mixed .xored .ensures) (updated .update .ensures) (c .state-of .ensures)
+    (first .padded .ensures) (second .padded2 .ensures) (mixed .xored .ensures) (advanced .advance .ensures .0) (c .state-of .ensures)
 
 pub seeded-spec : {M : Type 1} → statement M
 seeded-spec =
     tie.close
     (tie.spec
-    tables-requires
     padded-requires
     padded-requires-2
     xored-requires
-    update-requires
+    slice-aggregate-advance
+    advance-requires
     state-of-requires
     returns)
