@@ -1,5 +1,6 @@
-/* Fortuna with its pools, timer and seeds, the generator alone, SHA-256, D and AES-256, and health tests that tell a
-   stuck noise source: the static library fortuna_c, for x86-64. It calls memcpy and memset, and nothing else.
+/* Fortuna with its pools, timer and seeds, the generator alone, SHA-256, D and AES-256, health tests that tell a stuck
+   noise source, and NIST's CTR_DRBG: the static library fortuna_c, for x86-64. It calls memcpy and memset, and nothing
+   else.
 
    STATIONS START FRESH AFTER THE UPDATE TO THE 2010 EDITION'S D: call fortuna_new, then fortuna_update with the stored
    seed. Take up no fortuna_state that was kept by a version whose header has fortuna_double_sha256, the name of D then.
@@ -50,22 +51,29 @@
        fortuna_log                    270,336
        fortuna_health_new                 256
        fortuna_health_test                256
+       fortuna_ctr_drbg_new               256
+       fortuna_ctr_drbg_instantiate     6,144
+       fortuna_ctr_drbg_reseed          6,144
+       fortuna_ctr_drbg_generate        6,144
 
    The library wipes no memory. After a call copies of the state's key K are left on the stack below the caller, also
-   of the K that the next call starts from. Where others may read that memory, wipe it, or run the calls on a stack of
-   their own.
+   of the K that the next call starts from. A call of CTR_DRBG leaves copies of its Key and its V there, also of those
+   that the next call starts from. Where others may read that memory, wipe it, or run the calls on a stack of their own.
 
    Traces. No branch in the ciphers goes by key or data, but both read tables at places that key and data pick, and a
    trace of the power or of the cache may tell those places. To expand a key both read the S-box, 256 bytes. The calls
-   that draw from a state or from the generator encipher by four tables of words, 4 KB, always. The cipher that goes
-   byte by byte reads the S-box for blocks too and nothing else: a smaller leak, not none. It is there for firmware that
-   enciphers under keys of its own where such traces matter (fortuna_aes256_bytewise_block).
+   that draw from a state or from the generator, and those of CTR_DRBG, encipher by four tables of words, 4 KB, always.
+   The cipher that goes byte by byte reads the S-box for blocks too and nothing else: a smaller leak, not none. It is
+   there for firmware that enciphers under keys of its own where such traces matter (fortuna_aes256_bytewise_block).
+   In CTR_DRBG no branch goes by Key, by V or by what an input holds: only by lengths and by the reseed counter. A step
+   of V goes through all its 16 bytes, however far the carry gets.
 
-   Numbers returned: FORTUNA_DONE, or the number of a refusal, the first in the order of the list below where more
-   than one applies. After a refusal buffers, quotas and state are as before; pools emptied are 0. FORTUNA_NONE_DRAWN
-   differs: the call's tries were made, so that the state has advanced. If that emptied pools, quotas are unspent;
-   the numbers of a shuffle are as before. No call is refused for another reason. A sample that fails a health test is
-   no refusal: the number is FORTUNA_DONE, and fortuna_health_passed tells. */
+   Numbers returned: FORTUNA_DONE, or the number of a refusal. Where more than one applies it is the first in the order
+   of the list below, but for CTR_DRBG, whose section has its order. After a refusal buffers, quotas and state are as
+   before; pools emptied are 0. FORTUNA_NONE_DRAWN differs: the call's tries were made, so that the state has advanced.
+   If that emptied pools, quotas are unspent; the numbers of a shuffle are as before. No call is refused for another
+   reason. A sample that fails a health test is no refusal: the number is FORTUNA_DONE, and fortuna_health_passed
+   tells. */
 #ifndef FORTUNA_H
 #define FORTUNA_H
 
@@ -85,7 +93,7 @@ enum {
     FORTUNA_BAD_POOL = 12,
     /* an event: no data, or more than 32 bytes */
     FORTUNA_BAD_DATA = 13,
-    /* a request, or a buffer for the generator's blocks, above 1,048,576 bytes */
+    /* a request, or a buffer for the generator's blocks, above 1,048,576 bytes; for CTR_DRBG above 65,536 bytes */
     FORTUNA_REQUEST_TOO_LONG = 14,
     /* a seed update or a seed write: a seed buffer that is not exactly 64 bytes */
     FORTUNA_BAD_SEED = 15,
@@ -127,7 +135,14 @@ enum {
     FORTUNA_CUTOFF_RANGE = 34,
     /* a malformed test state, also where no samples come: a run or a count at or above its cutoff; a count above the
        samples seen; 512 or more seen; some seen but count or run 0; none seen but first not 0; run 0 but last not 0 */
-    FORTUNA_MALFORMED_HEALTH = 35
+    FORTUNA_MALFORMED_HEALTH = 35,
+    /* CTR_DRBG, a seeding: entropy input that is not exactly 48 bytes */
+    FORTUNA_ENTROPY_LENGTH = 40,
+    /* CTR_DRBG: a personalization string or additional input above 48 bytes */
+    FORTUNA_INPUT_TOO_LONG = 41,
+    /* CTR_DRBG: a reseed or a request on a state that was never seeded, which is reseed_counter 0; a request where 2^48
+       or more were made since the last seeding, which is reseed_counter above 2^48 */
+    FORTUNA_SEEDING_NEEDED = 42
 };
 
 /* SHA-256 (FIPS 180-4) of length bytes at data, into 32 bytes at digest.
@@ -452,6 +467,62 @@ static inline bool fortuna_health_passed(fortuna_health_answer a)
 {
     return a.number == FORTUNA_DONE && !a.repetition && !a.proportion;
 }
+
+/* ---- CTR_DRBG (NIST SP 800-90A, 10.2.1), for permanent stations whose network requires it
+
+   It is the standard's generator with AES-256 and no derivation function. Its state has nothing to do with a
+   fortuna_state: it has no pools and no clock, and no call here reads or changes one. Where no rule asks for it, draw
+   from Fortuna: that takes in noise as it comes, and this takes in nothing but what is given to a seeding.
+
+   How to use it:
+
+   - Instantiate it once after a power-up, with 48 bytes of entropy input. Then make requests, and reseed it with 48 new
+     bytes as often as your network asks.
+   - Entropy input must have full entropy: 48 bytes of which nobody can tell anything, not one bit. There is no
+     derivation function that makes such bytes of many weaker ones, so a sensor's readings won't do, and no call can
+     tell. They may be drawn from a seeded station, by fortuna_request; examples/c/station.c does so. They are then as
+     good as the noise that went into the station. Never give the same 48 bytes twice.
+   - The personalization string and the additional input have up to 48 bytes each and need not be secret. A serial
+     number as the personalization string makes two stations differ that would else start alike. Shorter ones are
+     filled up to 48 bytes with zeros at the end, so zeros that you add there yourself change nothing.
+   - None to give: length 0, with a pointer that is still not null. In a request an empty additional input is none, and
+     zeros are an input: one byte of 0 gives other bytes than none.
+   - A request is for up to 65,536 bytes. One for 0 bytes is a request too: it changes Key and V, and counts.
+   - After a seeding 2^48 requests are accepted, then none (FORTUNA_SEEDING_NEEDED) until a reseed.
+   - A stored state that is taken up twice gives the same bytes twice. Store none: instantiate anew at a power-up.
+   - One call at a time on a state. out may overlap nothing else that the call is lent, and an input may not overlap
+     the state. The two inputs of a seeding may overlap each other.
+
+   Where more than one number applies, it is the first of FORTUNA_ENTROPY_LENGTH, FORTUNA_INPUT_TOO_LONG,
+   FORTUNA_REQUEST_TOO_LONG and FORTUNA_SEEDING_NEEDED, in this order. A refused call changes and counts nothing. */
+
+/* The state, 56 bytes: Key; V, most significant byte first; and the reseed counter, which is 0 before any seeding, 1
+   after one, and 1 more with each request that is accepted. Any values may stand in it. */
+typedef struct {
+    uint8_t key[32];
+    uint8_t v[16];
+    uint64_t reseed_counter;
+} fortuna_ctr_drbg;
+
+/* The state before any seeding: all 0. */
+fortuna_ctr_drbg fortuna_ctr_drbg_new(void);
+
+/* The first seeding (10.2.1.3.1), with the length bytes of entropy input at entropy, which must be 48, and up to 48
+   bytes at personalization. Nothing is read of the state, so that one that was seeded before starts anew.
+   FORTUNA_DONE, FORTUNA_ENTROPY_LENGTH or FORTUNA_INPUT_TOO_LONG. */
+uint32_t fortuna_ctr_drbg_instantiate(fortuna_ctr_drbg *state, const uint8_t *entropy, size_t length,
+                                      const uint8_t *personalization, size_t personalization_length);
+
+/* A reseed (10.2.1.4.1), with the same entropy input and up to 48 bytes at additional. What the state holds stays in:
+   who knows the new entropy input alone does not know the next bytes.
+   FORTUNA_DONE, FORTUNA_ENTROPY_LENGTH, FORTUNA_INPUT_TOO_LONG or FORTUNA_SEEDING_NEEDED. */
+uint32_t fortuna_ctr_drbg_reseed(fortuna_ctr_drbg *state, const uint8_t *entropy, size_t length,
+                                 const uint8_t *additional, size_t additional_length);
+
+/* A request (10.2.1.5.1): fills the length bytes at out, with up to 48 bytes at additional.
+   FORTUNA_DONE, FORTUNA_INPUT_TOO_LONG, FORTUNA_REQUEST_TOO_LONG or FORTUNA_SEEDING_NEEDED. */
+uint32_t fortuna_ctr_drbg_generate(fortuna_ctr_drbg *state, uint8_t *out, size_t length, const uint8_t *additional,
+                                   size_t additional_length);
 
 #ifdef __cplusplus
 }
