@@ -29,7 +29,7 @@ def bounds():
 
 
 def measured(archive):
-    """For each function the stack that it needed, and the copies of K that it left."""
+    """For each function the stack that it needed, and the copies of K, and of V of CTR_DRBG, that it left."""
     with tempfile.TemporaryDirectory() as directory:
         program = Path(directory) / "stack"
         # all of C's functions found before the start: to find one at its first call would take stack too
@@ -38,6 +38,14 @@ def measured(archive):
         subprocess.run([*words, f"-I{HEADER.parent}", "-o", program, source, archive], check=True)
         rows = [line.split() for line in said_by(program).splitlines()]
     return {name: (int(used), left) for name, used, *left in rows}
+
+
+def copies_said(left):
+    """Of the key before and after a call, and for CTR_DRBG of V before and after it."""
+    if not left:
+        return ""
+    of_v = f", of V {left[2]} and {left[3]}" if left[2:] else ""
+    return f"; copies of K left: {left[0]} of the one before, {left[1]} of the one after{of_v}"
 
 
 def stack_faults(archive, exported):
@@ -51,8 +59,7 @@ def stack_faults(archive, exported):
             yield f"{name} is not measured by tests/compiled/stack.c"
         else:
             used, left = found[name]
-            copies = f"; copies of K left: {left[0]} of the one before, {left[1]} of the one after" if left else ""
-            print(f"{name}: {used:,} bytes of stack, at most {table[name]:,} said{copies}")
+            print(f"{name}: {used:,} bytes of stack, at most {table[name]:,} said{copies_said(left)}")
             if used > table[name]:
                 yield f"{name} needs {used:,} bytes of stack, and include/fortuna.h says at most {table[name]:,}"
 

@@ -1,7 +1,8 @@
 /* The stack that each exported call needs, and what it leaves there: each call runs in a thread on a painted stack.
    Prints a line for each function: its name, the most bytes of stack that a case of it needed, and for calls on a
    state the most copies of its key that stood there when the call had ended: of the key before it, and of the key after
-   it. Stops where such a call is refused that should be accepted, or the other way round: a refused one needs less. */
+   it; for CTR_DRBG then the same of V. Stops where such a call is refused that should be accepted, or the other way
+   round: a refused one needs less. */
 #define _GNU_SOURCE
 #include "fortuna.h"
 
@@ -11,7 +12,7 @@
 #include <string.h>
 
 enum { STACK = 1 << 20, PAINT = 0xa5, LIST = 256, SEED = 64, ROOM = 1 << 20, SAMPLES = 1000, RECORDS = 64 };
-enum { SOURCE = 900 };
+enum { SOURCE = 900, ENTROPY = 48, MOST = 65536 };
 
 static uint8_t *stack;
 static fortuna_state state;
@@ -24,6 +25,7 @@ static fortuna_quota quotas[RECORDS];
 static size_t records;
 static fortuna_health health;
 static uint32_t samples[SAMPLES];
+static fortuna_ctr_drbg drbg;
 static char lines[1 << 16];
 static size_t line_count;
 
@@ -138,6 +140,22 @@ static void malformed_health(void)
     health.seen = 512;
 }
 
+/* Bytes in Key and V that nothing else has, so that copies of them are told. */
+static void drbg_seeded(void)
+{
+    for (size_t i = 0; i < sizeof drbg.key; i++)
+        drbg.key[i] = (uint8_t)(3 * i + 1);
+    for (size_t i = 0; i < sizeof drbg.v; i++)
+        drbg.v[i] = (uint8_t)(5 * i + 2);
+    drbg.reseed_counter = 1;
+}
+
+static void drbg_unseeded(void)
+{
+    drbg_seeded();
+    drbg.reseed_counter = 0;
+}
+
 /* ---- the calls */
 
 enum { CLOCK = 9999 };
@@ -167,6 +185,19 @@ static void metered_shuffle(void) { fortuna_metered_shuffle(&state, quotas, reco
 static void health_new(void) { health = fortuna_health_new(); }
 static void health_test(void) { fortuna_health_test(&health, samples, SAMPLES, 31, 325); }
 static void health_cutoff(void) { fortuna_health_test(&health, samples, SAMPLES, 31, 513); }
+static void drbg_new(void) { drbg = fortuna_ctr_drbg_new(); }
+static void drbg_start(void) { fortuna_ctr_drbg_instantiate(&drbg, data, ENTROPY, seed, 0); }
+static void drbg_start_named(void) { fortuna_ctr_drbg_instantiate(&drbg, data, ENTROPY, seed, ENTROPY); }
+static void drbg_start_short(void) { fortuna_ctr_drbg_instantiate(&drbg, data, ENTROPY - 1, seed, 0); }
+static void drbg_reseed(void) { fortuna_ctr_drbg_reseed(&drbg, data, ENTROPY, seed, 0); }
+static void drbg_reseed_with(void) { fortuna_ctr_drbg_reseed(&drbg, data, ENTROPY, seed, ENTROPY); }
+static void drbg_none(void) { fortuna_ctr_drbg_generate(&drbg, out, 0, seed, 0); }
+static void drbg_none_with(void) { fortuna_ctr_drbg_generate(&drbg, out, 0, seed, ENTROPY); }
+static void drbg_block(void) { fortuna_ctr_drbg_generate(&drbg, out, 16, seed, 0); }
+static void drbg_block_with(void) { fortuna_ctr_drbg_generate(&drbg, out, 16, seed, ENTROPY); }
+static void drbg_most(void) { fortuna_ctr_drbg_generate(&drbg, out, MOST, seed, 0); }
+static void drbg_most_with(void) { fortuna_ctr_drbg_generate(&drbg, out, MOST, seed, ENTROPY); }
+static void drbg_above(void) { fortuna_ctr_drbg_generate(&drbg, out, MOST + 1, seed, 0); }
 static void run_log(void) { fortuna_log((const uint8_t *)lines, line_count, out, sizeof out); }
 
 /* Events of several lengths, so that the pool's tail is filled, passed over and met exactly. */
@@ -272,6 +303,21 @@ static const struct {
     {"fortuna_health_test", varied, health_cutoff, APART},
     {"fortuna_health_test", stuck, health_test, APART},
     {"fortuna_health_test", malformed_health, health_test, APART},
+    {"fortuna_ctr_drbg_new", drbg_seeded, drbg_new, APART},
+    {"fortuna_ctr_drbg_instantiate", drbg_seeded, drbg_start_short, REFUSED},
+    {"fortuna_ctr_drbg_instantiate", drbg_seeded, drbg_start, ACCEPTED},
+    {"fortuna_ctr_drbg_instantiate", drbg_unseeded, drbg_start_named, ACCEPTED},
+    {"fortuna_ctr_drbg_reseed", drbg_unseeded, drbg_reseed, REFUSED},
+    {"fortuna_ctr_drbg_reseed", drbg_seeded, drbg_reseed, ACCEPTED},
+    {"fortuna_ctr_drbg_reseed", drbg_seeded, drbg_reseed_with, ACCEPTED},
+    {"fortuna_ctr_drbg_generate", drbg_unseeded, drbg_block, REFUSED},
+    {"fortuna_ctr_drbg_generate", drbg_seeded, drbg_above, REFUSED},
+    {"fortuna_ctr_drbg_generate", drbg_seeded, drbg_none, ACCEPTED},
+    {"fortuna_ctr_drbg_generate", drbg_seeded, drbg_none_with, ACCEPTED},
+    {"fortuna_ctr_drbg_generate", drbg_seeded, drbg_block, ACCEPTED},
+    {"fortuna_ctr_drbg_generate", drbg_seeded, drbg_block_with, ACCEPTED},
+    {"fortuna_ctr_drbg_generate", drbg_seeded, drbg_most, ACCEPTED},
+    {"fortuna_ctr_drbg_generate", drbg_seeded, drbg_most_with, ACCEPTED},
 };
 enum { CASES = sizeof cases / sizeof *cases };
 
@@ -303,47 +349,87 @@ static size_t larger(size_t a, size_t b)
     return a > b ? a : b;
 }
 
-static size_t copies_of(const uint8_t key[32])
+/* How often secret bytes stand on the stack. */
+static size_t copies_of(const uint8_t *secret, size_t size)
 {
     static const uint8_t none[32];
     size_t found = 0;
-    if (!memcmp(key, none, sizeof none))
+    if (!memcmp(secret, none, size))
         return 0; /* unseeded */
-    for (const uint8_t *at = stack; (at = memmem(at, (size_t)(stack + STACK - at), key, 32)); at++)
+    for (const uint8_t *at = stack; (at = memmem(at, (size_t)(stack + STACK - at), secret, size)); at++)
         found++;
     return found;
 }
 
-/* A call on a state changes its key or a pool exactly if it is accepted. */
-static void check_acceptance(int i, const fortuna_state *old)
+/* What a call works on: what of it changes exactly if the call is accepted, and where its key stands. Only CTR_DRBG has a
+   V that is secret. */
+typedef struct {
+    const void *at;
+    size_t size, key, v;
+} lent;
+
+enum { NO_V = 0, KEY_SIZE = 32, V_SIZE = 16 };
+
+static lent lent_to(const char *name)
+{
+    if (!strncmp(name, "fortuna_ctr_drbg_", 17))
+        return (lent){&drbg, sizeof drbg, offsetof(fortuna_ctr_drbg, key), offsetof(fortuna_ctr_drbg, v)};
+    return (lent){&state, offsetof(fortuna_state, last_reseed), offsetof(fortuna_state, generator.key), NO_V};
+}
+
+/* The most copies that a case left: of the key before the call and after it, and of V. */
+typedef struct {
+    size_t key[2], v[2];
+} copies;
+
+static void count_copies(copies *most, const lent *on, const uint8_t *old)
+{
+    const uint8_t *const both[2] = {old, on->at};
+    for (int i = 0; i < 2; i++) {
+        most->key[i] = larger(most->key[i], copies_of(both[i] + on->key, KEY_SIZE));
+        if (on->v != NO_V)
+            most->v[i] = larger(most->v[i], copies_of(both[i] + on->v, V_SIZE));
+    }
+}
+
+static void check_acceptance(int i, const lent *on, const uint8_t *old)
 {
     const bool accepted = cases[i].outcome == ACCEPTED;
-    const bool changed = memcmp(old, &state, offsetof(fortuna_state, last_reseed)) != 0;
+    const bool changed = memcmp(old, on->at, on->size) != 0;
     if (cases[i].outcome != APART)
         require(accepted == changed, cases[i].name, accepted ? "is refused" : "is accepted where it should be refused");
 }
 
+static void print_line(const char *name, size_t most, const lent *on, const copies *left)
+{
+    printf("%s %zu", name, most);
+    if (on)
+        printf(" %zu %zu", left->key[0], left->key[1]);
+    if (on && on->v != NO_V)
+        printf(" %zu %zu", left->v[0], left->v[1]);
+    printf("\n");
+}
+
 int main(void)
 {
+    static uint8_t old[sizeof(fortuna_state)];
     stack = aligned_alloc(4096, STACK);
     write_log();
     const size_t base = used_by(nothing);
     for (int i = 0; i < CASES;) {
         const char *name = cases[i].name;
+        const lent on = lent_to(name);
         const bool on_state = cases[i].outcome != APART;
-        size_t most = 0, before = 0, after = 0;
+        size_t most = 0;
+        copies left = {0};
         for (; i < CASES && !strcmp(cases[i].name, name); i++) {
             cases[i].prepare();
-            const fortuna_state old = state;
+            memcpy(old, on.at, on.size);
             most = larger(most, used_by(cases[i].call) - base);
-            check_acceptance(i, &old);
-            before = larger(before, copies_of(old.generator.key));
-            after = larger(after, copies_of(state.generator.key));
+            check_acceptance(i, &on, old);
+            count_copies(&left, &on, old);
         }
-        printf("%s %zu", name, most);
-        if (on_state)
-            printf(" %zu %zu", before, after);
-        printf("\n");
+        print_line(name, most, on_state ? &on : NULL, &left);
     }
     return 0;
 }

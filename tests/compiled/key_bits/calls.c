@@ -1,19 +1,21 @@
 /* Every call that works on a key, with the key's bytes marked as unknown to memcheck: it reports each jump, and each
-   address, that they decide. As 'calls blank' and 'calls other' it makes one seed update, by a blank page or by
-   one whose last byte is another, with the seed's bytes unknown in place of the key's; as 'calls metered-blank' and
-   'calls metered-other' the same with a list. A list of quotas is no secret, and known throughout: whether it is
-   cleared must not go by the key. */
+   address, that they decide. For CTR_DRBG Key, V and the bytes of every input are unknown; lengths and the reseed counter
+   are known. As 'calls blank' and 'calls other' it makes one seed update, by a blank page or by one whose last byte is
+   another, with the seed's bytes unknown in place of the key's; as 'calls metered-blank' and 'calls metered-other' the
+   same with a list. A list of quotas is no secret, and known throughout: whether it is cleared must not go by the
+   key. */
 #include <fortuna.h>
 #include <stdio.h>
 #include <stdlib.h>
 #include <string.h>
 #include <valgrind/memcheck.h>
 
-enum { OUTPUT = 40, SEED = 64, CLOCK = 1000, SLOTS = 900, RECORDS = 64 };
+enum { OUTPUT = 40, SEED = 64, CLOCK = 1000, SLOTS = 900, RECORDS = 64, ENTROPY = 48, REQUEST = 65536 };
 
 static uint8_t output[OUTPUT];
 static uint8_t seed[SEED];
 static fortuna_quota quotas[RECORDS];
+static uint8_t entropy[ENTROPY], input[ENTROPY + 1], drawn[REQUEST + 1];
 
 static void answered(const char *call, uint32_t number, uint32_t expected)
 {
@@ -124,6 +126,54 @@ static void cipher_calls(void)
     fortuna_aes256_bytewise_block(fortuna_aes256_bytewise_expand(g.key), output);
 }
 
+/* Requests on a seeded state: of no bytes, of a block, with a block cut short, of the most; with additional input and
+   without. Each looks at the reseed counter, which must be known after any call. */
+static void drbg_requests(fortuna_ctr_drbg *d)
+{
+    static const size_t lengths[] = {0, 16, OUTPUT, REQUEST};
+    for (size_t i = 0; i < sizeof lengths / sizeof lengths[0]; i++) {
+        done("request of CTR_DRBG", fortuna_ctr_drbg_generate(d, drawn, lengths[i], input, 0));
+        done("request with one byte of input", fortuna_ctr_drbg_generate(d, drawn, lengths[i], input, 1));
+        done("request with additional input", fortuna_ctr_drbg_generate(d, drawn, lengths[i], input, ENTROPY));
+    }
+}
+
+static void drbg_refusals(fortuna_ctr_drbg *d)
+{
+    answered("seeding by 47 bytes", fortuna_ctr_drbg_instantiate(d, entropy, ENTROPY - 1, input, 0),
+             FORTUNA_ENTROPY_LENGTH);
+    answered("reseed by 47 bytes", fortuna_ctr_drbg_reseed(d, entropy, ENTROPY - 1, input, 0), FORTUNA_ENTROPY_LENGTH);
+    answered("reseed with a long input", fortuna_ctr_drbg_reseed(d, entropy, ENTROPY, input, ENTROPY + 1),
+             FORTUNA_INPUT_TOO_LONG);
+    answered("request with a long input", fortuna_ctr_drbg_generate(d, drawn, OUTPUT, input, ENTROPY + 1),
+             FORTUNA_INPUT_TOO_LONG);
+    answered("request above the most", fortuna_ctr_drbg_generate(d, drawn, REQUEST + 1, input, 0),
+             FORTUNA_REQUEST_TOO_LONG);
+    d->reseed_counter = 0;
+    answered("reseed of a state never seeded", fortuna_ctr_drbg_reseed(d, entropy, ENTROPY, input, 0),
+             FORTUNA_SEEDING_NEEDED);
+    answered("request on a state never seeded", fortuna_ctr_drbg_generate(d, drawn, OUTPUT, input, 0),
+             FORTUNA_SEEDING_NEEDED);
+}
+
+/* From a fresh state, and from one whose V wraps at the first step, where a step that ended early would go furthest. */
+static void drbg_calls(void)
+{
+    fortuna_ctr_drbg d = fortuna_ctr_drbg_new(), wraps = {.reseed_counter = 1};
+    memset(wraps.v, 0xff, sizeof wraps.v);
+    VALGRIND_MAKE_MEM_UNDEFINED(wraps.key, sizeof wraps.key);
+    VALGRIND_MAKE_MEM_UNDEFINED(wraps.v, sizeof wraps.v);
+    VALGRIND_MAKE_MEM_UNDEFINED(entropy, sizeof entropy);
+    VALGRIND_MAKE_MEM_UNDEFINED(input, sizeof input);
+    done("instantiate", fortuna_ctr_drbg_instantiate(&d, entropy, ENTROPY, input, ENTROPY));
+    drbg_requests(&d);
+    done("reseed", fortuna_ctr_drbg_reseed(&d, entropy, ENTROPY, input, ENTROPY));
+    done("reseed with no input", fortuna_ctr_drbg_reseed(&d, entropy, ENTROPY, input, 0));
+    drbg_refusals(&d);
+    drbg_requests(&wraps);
+    done("instantiate with no input", fortuna_ctr_drbg_instantiate(&wraps, entropy, ENTROPY, input, 0));
+}
+
 /* A page of FF but for its last byte, all of it unknown to memcheck. */
 static void unknown_seed(uint8_t last)
 {
@@ -166,6 +216,7 @@ int main(int count, char **words)
         metered_draws();
         generator_calls();
         cipher_calls();
+        drbg_calls();
     }
     return 0;
 }
