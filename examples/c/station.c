@@ -1,9 +1,10 @@
 /* A digitiser from start to stop: the stored seed goes in and its successor is stored before any key is drawn, noise is
    tested and goes in as events, link keys, a radio slot and the order of a polling list come out. One source gets
    stuck: the health tests tell before its stuck readings become an event. Another digitiser is fresh from the works:
-   its page of flash memory was never written, so it waits for noise before it has a seed. At the last power-up a
-   tiltmeter floods: a list of quotas turns back what is too much, and the seismometer goes on. Noise, clock and flash
-   pages are stand-ins, so each run prints the same.
+   its page of flash memory was never written, so it waits for noise before it has a seed. At a later power-up a
+   tiltmeter floods: a list of quotas turns back what is too much, and the seismometer goes on. At the last one the
+   digitiser is a permanent station, whose network wants keys from CTR_DRBG. Noise, clock and flash pages are stand-ins,
+   so each run prints the same.
 
    One call at a time on a state: here the task that runs main owns the state and makes every call. Interrupts only put
    noise into a ring buffer, and the owner takes it from there between its other calls. */
@@ -47,7 +48,7 @@ static const struct {
     {FORTUNA_BAD_SOURCE, "no such source"},
     {FORTUNA_BAD_POOL, "no such pool"},
     {FORTUNA_BAD_DATA, "no data, or more than 32 bytes"},
-    {FORTUNA_REQUEST_TOO_LONG, "more than 1,048,576 bytes asked for"},
+    {FORTUNA_REQUEST_TOO_LONG, "more than 1,048,576 bytes asked for, or 65,536 of CTR_DRBG"},
     {FORTUNA_BAD_SEED, "a seed that is not 64 bytes"},
     {FORTUNA_TOO_LONG, "a message above 2^61 - 65 bytes"},
     {FORTUNA_SLOT_RANGE, "a bound outside 1 to 2^32, or a list that is too long or repeats a number"},
@@ -63,6 +64,9 @@ static const struct {
     {FORTUNA_NONE_DRAWN, "no try gave a value"},
     {FORTUNA_CUTOFF_RANGE, "a cutoff outside 2 to 512"},
     {FORTUNA_MALFORMED_HEALTH, "a malformed test state"},
+    {FORTUNA_ENTROPY_LENGTH, "entropy input that is not 48 bytes"},
+    {FORTUNA_INPUT_TOO_LONG, "more than 48 bytes of another input"},
+    {FORTUNA_SEEDING_NEEDED, "never seeded, or 2^48 requests since"},
 };
 
 static const char *reason(uint32_t number)
@@ -490,6 +494,58 @@ static void flood(uint8_t page[SEED])
     store("seed for the next start", page);
 }
 
+/* ---- a permanent station, whose network wants keys from CTR_DRBG */
+
+enum { ENTROPY = 48 };
+
+/* Stands for an input that is not given: no bytes, but not a null pointer. */
+static const uint8_t none[1];
+
+/* Entropy input must have full entropy. Readings have not, but Fortuna makes bytes of them that nobody can tell. Each
+   seeding gets new ones. */
+static void draw_entropy(fortuna_state *f, uint32_t clock, uint8_t entropy[ENTROPY])
+{
+    must("entropy input", fortuna_request(f, clock, entropy, ENTROPY).number);
+}
+
+/* A byte is missing: the call says so, and the state stays as it was. */
+static void cut_entropy(fortuna_ctr_drbg *d, const uint8_t entropy[ENTROPY])
+{
+    const uint32_t number = fortuna_ctr_drbg_instantiate(d, entropy, ENTROPY - 1, none, 0);
+    if (number != FORTUNA_DONE)
+        printf("instantiate with %d bytes: refused, %u (%s)\n", ENTROPY - 1, number, reason(number));
+}
+
+/* With additional input, which need not be secret, or with none. */
+static void draw_network_key(fortuna_ctr_drbg *d, const uint8_t *additional, size_t length)
+{
+    uint8_t key[KEY];
+    must("key of CTR_DRBG", fortuna_ctr_drbg_generate(d, key, sizeof key, additional, length));
+    printf("key of CTR_DRBG, request %u since its seeding: ", (unsigned)d->reseed_counter - 1);
+    print_bytes(key, sizeof key);
+}
+
+/* A power-up, and noise before any entropy input is drawn. The personalization string is the station's name, so that no
+   other starts as this one does. */
+static void run_permanent(uint8_t page[SEED])
+{
+    static const uint8_t name[] = "permanent station 12", link[] = "link to the observatory";
+    uint8_t entropy[ENTROPY];
+    fortuna_state f = fortuna_new();
+    fortuna_ctr_drbg d = fortuna_ctr_drbg_new();
+    printf("a permanent station\n");
+    power_up(&f, 10, page);
+    gather_noise(&f);
+    draw_entropy(&f, 1000, entropy);
+    cut_entropy(&d, entropy);
+    must("instantiate", fortuna_ctr_drbg_instantiate(&d, entropy, ENTROPY, name, sizeof name - 1));
+    draw_network_key(&d, none, 0);
+    draw_network_key(&d, link, sizeof link - 1);
+    draw_entropy(&f, 2000, entropy);
+    must("reseed", fortuna_ctr_drbg_reseed(&d, entropy, ENTROPY, none, 0));
+    draw_network_key(&d, none, 0);
+}
+
 int main(void)
 {
     show_edition();
@@ -514,5 +570,6 @@ int main(void)
     run_log();
     start_twice();
     flood(flash);
+    run_permanent(flash);
     return 0;
 }

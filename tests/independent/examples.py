@@ -1,13 +1,15 @@
 #!/usr/bin/env python3
 """What the programs in examples/ must print, worked out by station.py, for the ciphers by aes256.py, for the log by
-logbook.py, and for the reading that fails a health test by health.py, from all readings of the source at once. Which of
-the tiltmeter's events are taken follows from division: its allowance by what an event takes of it.
+logbook.py, for the permanent station's keys by ctr_drbg.py, and for the reading that fails a health test by health.py,
+from all readings of the source at once. Which of the tiltmeter's events are taken follows from division: its allowance
+by what an event takes of it.
 
     tests/independent/examples.py                  prints it
     tests/independent/examples.py --check FILE     exits 1 where FILE differs"""
 import io
 import sys
 
+import ctr_drbg
 import generator
 import logbook
 import station
@@ -30,6 +32,7 @@ COST = 3 + READINGS  # what an event takes of its source's allowance
 ALLOWANCE = 32 * COST
 FLOOD = 10  # events of the tiltmeter where others send one
 LOG = b"010700A1B2\n050384003C\n02000000640010\nFF\n"
+NAME, LINK = b"permanent station 12", b"link to the observatory"
 
 
 def readings(source, turn):
@@ -61,6 +64,16 @@ def given(state, events):
     for event in events:
         state = station.event(state, *event).next
     return state
+
+
+def noise_lines(state):
+    """Of a day's noise. Returns the state after it."""
+    failed = sorted(failures())
+    for turn, source, place, tests in failed:
+        yield f"source {source}, turn {turn}: sample {place} fails {tests}, source left out"
+    taken = list(events(failed))
+    yield f"{len(taken)} events taken"
+    return given(state, taken)
 
 
 def key_line(clock, outcome):
@@ -102,7 +115,7 @@ def tally_lines(sent, taken, spent):
 
 def flood_lines(seed):
     """Of the power-up at which a tiltmeter floods. Each instrument's allowance is for one event to each pool. In each
-    pool the tiltmeter's is the first, as it is ahead of the others by then."""
+    pool the tiltmeter's is the first, as it is ahead of the others by then. Returns the seed of the next power-up."""
     yield "a tiltmeter floods"
     updated = station.update(station.FRESH, 10, seed)
     yield f"seed updated: {updated.buffer.hex()}"
@@ -127,7 +140,31 @@ def flood_lines(seed):
         {**taken, "tiltmeter": taken["tiltmeter"] + FLOOD},
         {**dict.fromkeys(INSTRUMENTS, 0), "tiltmeter": COST * FLOOD},
     )
-    yield f"seed for the next start: {station.write(left, 2000, updated.buffer).buffer.hex()}"
+    written = station.write(left, 2000, updated.buffer)
+    yield f"seed for the next start: {written.buffer.hex()}"
+    return written.buffer
+
+
+def network_key_line(request, answer):
+    return f"key of CTR_DRBG, request {request} since its seeding: {answer.out.hex()}"
+
+
+def permanent_lines(seed):
+    """Of the power-up of a permanent station: entropy input from Fortuna, keys from CTR_DRBG."""
+    drbg = ctr_drbg.CtrDrbg()
+    yield "a permanent station"
+    updated = station.update(station.FRESH, 10, seed)
+    yield f"seed updated: {updated.buffer.hex()}"
+    noisy = yield from noise_lines(updated.next)
+    entropy = station.request(noisy, 1000, bytes(48))
+    cut = drbg.instantiate(ctr_drbg.NEW, entropy.buffer[:47], b"")
+    yield f"instantiate with 47 bytes: refused, {cut.number} (entropy input that is not 48 bytes)"
+    first = drbg.generate(drbg.instantiate(cut.next, entropy.buffer, NAME).next, 32, b"")
+    yield network_key_line(1, first)
+    second = drbg.generate(first.next, 32, LINK)
+    yield network_key_line(2, second)
+    reseeded = drbg.reseed(second.next, station.request(entropy.next, 2000, bytes(48)).buffer, b"")
+    yield network_key_line(1, drbg.generate(reseeded.next, 32, b""))
 
 
 def lines():
@@ -139,12 +176,8 @@ def lines():
     yield f"key at 0 ms: refused, {early.number} (no seed and too little noise)"
     updated = station.update(early.next, 10, SEED)
     yield f"seed updated: {updated.buffer.hex()}"
-    failed = sorted(failures())
-    for turn, source, place, tests in failed:
-        yield f"source {source}, turn {turn}: sample {place} fails {tests}, source left out"
-    taken = list(events(failed))
-    yield f"{len(taken)} events taken"
-    first = station.request(given(updated.next, taken), 1000, bytes(32))
+    noisy = yield from noise_lines(updated.next)
+    first = station.request(noisy, 1000, bytes(32))
     yield key_line(1000, first)
     second = station.request(first.next, 1050, bytes(32))
     yield key_line(1050, second)
@@ -161,7 +194,8 @@ def lines():
     yield "a log's answers:"
     yield from (line.decode().rstrip() for line in logbook.answers(io.BytesIO(LOG)))
     yield from works_lines()
-    yield from flood_lines(written.buffer)
+    page = yield from flood_lines(written.buffer)
+    yield from permanent_lines(page)
 
 
 def main(args):

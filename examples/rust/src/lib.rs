@@ -1,5 +1,5 @@
-//! A safe wrapper of the proved Fortuna and of the health tests of its noise sources. include/fortuna.h says what each
-//! call does, and how much stack it needs.
+//! A safe wrapper of the proved Fortuna, of the health tests of its noise sources, and of NIST's CTR_DRBG.
+//! include/fortuna.h says what each call does, and how much stack it needs.
 use std::fmt;
 use std::mem::{offset_of, size_of};
 
@@ -26,6 +26,9 @@ pub enum Refusal {
     BadQuotas = 37,
     NotListed = 38,
     OverAllowance = 39,
+    EntropyLength = 40,
+    InputTooLong = 41,
+    SeedingNeeded = 42,
 }
 
 impl Refusal {
@@ -50,6 +53,9 @@ impl Refusal {
             37 => Refusal::BadQuotas,
             38 => Refusal::NotListed,
             39 => Refusal::OverAllowance,
+            40 => Refusal::EntropyLength,
+            41 => Refusal::InputTooLong,
+            42 => Refusal::SeedingNeeded,
             _ => unreachable!("the header has no number {number} for these calls"),
         }
     }
@@ -59,7 +65,7 @@ impl Refusal {
             Refusal::BadSource => "no such source",
             Refusal::BadPool => "no such pool",
             Refusal::BadData => "no data, or more than 32 bytes",
-            Refusal::RequestTooLong => "more than 1,048,576 bytes asked for",
+            Refusal::RequestTooLong => "more than 1,048,576 bytes asked for, or 65,536 of CTR_DRBG",
             Refusal::BadSeed => "a seed that is not 64 bytes",
             Refusal::MessageTooLong => "a message above 2^61 - 65 bytes",
             Refusal::Malformed => "a malformed state",
@@ -79,6 +85,9 @@ impl Refusal {
             }
             Refusal::NotListed => "a source with no quota",
             Refusal::OverAllowance => "more than the source's allowance",
+            Refusal::EntropyLength => "entropy input that is not 48 bytes",
+            Refusal::InputTooLong => "more than 48 bytes of another input",
+            Refusal::SeedingNeeded => "never seeded, or 2^48 requests since",
         }
     }
 }
@@ -229,6 +238,13 @@ struct HealthAnswer {
     place: usize,
 }
 
+#[repr(C)]
+struct CtrDrbgState {
+    key: [u8; 32],
+    v: [u8; 16],
+    reseed_counter: u64,
+}
+
 // The sizes that the header's structs have in C, and the places of the fields that stand last or behind smaller ones.
 const _: () = assert!(size_of::<Pool>() == 104 && size_of::<State>() == 3392);
 const _: () = assert!(size_of::<Answer>() == 8 && size_of::<Draw>() == 16);
@@ -238,6 +254,8 @@ const _: () = assert!(size_of::<HealthState>() == 20 && offset_of!(HealthState, 
 const _: () = assert!(size_of::<HealthAnswer>() == 16 && offset_of!(HealthAnswer, place) == 8);
 const _: () = assert!(offset_of!(HealthAnswer, proportion) == 5);
 const _: () = assert!(size_of::<Aes256>() == 240 && size_of::<Aes256Bytewise>() == 240);
+const _: () = assert!(size_of::<CtrDrbgState>() == 56 && offset_of!(CtrDrbgState, v) == 32);
+const _: () = assert!(offset_of!(CtrDrbgState, reseed_counter) == 48);
 
 extern "C" {
     fn fortuna_sha_d256(data: *const u8, length: usize, digest: *mut [u8; 32]) -> u32;
@@ -316,6 +334,28 @@ extern "C" {
         repetition: u32,
         proportion: u32,
     ) -> HealthAnswer;
+    fn fortuna_ctr_drbg_new() -> CtrDrbgState;
+    fn fortuna_ctr_drbg_instantiate(
+        state: *mut CtrDrbgState,
+        entropy: *const u8,
+        length: usize,
+        personalization: *const u8,
+        personalization_length: usize,
+    ) -> u32;
+    fn fortuna_ctr_drbg_reseed(
+        state: *mut CtrDrbgState,
+        entropy: *const u8,
+        length: usize,
+        additional: *const u8,
+        additional_length: usize,
+    ) -> u32;
+    fn fortuna_ctr_drbg_generate(
+        state: *mut CtrDrbgState,
+        out: *mut u8,
+        length: usize,
+        additional: *const u8,
+        additional_length: usize,
+    ) -> u32;
 }
 
 /// Fortuna with its pools, timer and seeds. It is not `Clone`: two copies would give the same bytes.
@@ -331,7 +371,7 @@ pub struct Fortuna {
     state: State,
 }
 
-// In each call below, those of Health too, a pointer and the length after it are those of one slice, which lasts for
+// In each call below, those of Health and CtrDrbg too, a pointer and the length after it are those of one slice, which lasts for
 // the call and overlaps nothing else, nor the state. The pointer of an empty slice is not null either.
 impl Fortuna {
     /// Unseeded, with empty pools.
@@ -512,6 +552,58 @@ impl Health {
             0 => Ok(()),
             number => Err(NotPassed::Refused(Refusal::from_number(number))),
         }
+    }
+}
+
+/// CTR_DRBG (NIST SP 800-90A, 10.2.1) with AES-256 and no derivation function, for permanent stations whose network
+/// requires it. It has nothing to do with a `Fortuna`, but may get its entropy input from one. It is not `Clone`: two
+/// copies would give the same bytes.
+///
+/// Entropy input has 48 bytes (else `EntropyLength`) and must have full entropy, which no call can check: draw it by
+/// `Fortuna::request` from a seeded station, anew for each seeding. A personalization string or additional input has up
+/// to 48 bytes (else `InputTooLong`) and need not be secret. `&[]` is none; zeros are an input.
+pub struct CtrDrbg {
+    state: CtrDrbgState,
+}
+
+impl CtrDrbg {
+    /// Never seeded.
+    #[allow(clippy::new_without_default)]
+    pub fn new() -> CtrDrbg {
+        CtrDrbg {
+            state: unsafe { fortuna_ctr_drbg_new() },
+        }
+    }
+
+    /// The first seeding, or one that starts anew, whatever was there before.
+    pub fn instantiate(&mut self, entropy: &[u8], personalization: &[u8]) -> Result<(), Refusal> {
+        let (at, length) = (entropy.as_ptr(), entropy.len());
+        let (other, other_length) = (personalization.as_ptr(), personalization.len());
+        noted(unsafe {
+            fortuna_ctr_drbg_instantiate(&mut self.state, at, length, other, other_length)
+        })
+    }
+
+    /// New entropy input to what is there. `SeedingNeeded`: it was never seeded.
+    pub fn reseed(&mut self, entropy: &[u8], additional: &[u8]) -> Result<(), Refusal> {
+        let (at, length) = (entropy.as_ptr(), entropy.len());
+        let (other, other_length) = (additional.as_ptr(), additional.len());
+        noted(unsafe { fortuna_ctr_drbg_reseed(&mut self.state, at, length, other, other_length) })
+    }
+
+    /// Fills `out`, which has up to 65,536 bytes (else `RequestTooLong`). `SeedingNeeded`: it was never seeded, or 2^48
+    /// requests were made since the last seeding, those for 0 bytes included.
+    pub fn generate(&mut self, out: &mut [u8], additional: &[u8]) -> Result<(), Refusal> {
+        let (at, length) = (out.as_mut_ptr(), out.len());
+        let (other, other_length) = (additional.as_ptr(), additional.len());
+        noted(unsafe {
+            fortuna_ctr_drbg_generate(&mut self.state, at, length, other, other_length)
+        })
+    }
+
+    /// How many requests were made since the last seeding; `None` where there was no seeding.
+    pub fn requests(&self) -> Option<u64> {
+        self.state.reseed_counter.checked_sub(1)
     }
 }
 

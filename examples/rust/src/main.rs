@@ -2,15 +2,16 @@
 //! key is drawn, noise is tested and goes in as events, link keys, a radio slot and the order of a
 //! polling list come out. One source gets stuck: the health tests tell before its stuck readings
 //! become an event. Another digitiser is fresh from the works: its page of flash memory was
-//! never written, so it waits for noise before it has a seed. At the last power-up a tiltmeter
-//! floods: a list of quotas turns back what is too much, and the seismometer goes on. Noise, clock
+//! never written, so it waits for noise before it has a seed. At a later power-up a tiltmeter
+//! floods: a list of quotas turns back what is too much, and the seismometer goes on. At the last
+//! one the digitiser is a permanent station, whose network wants keys from CTR_DRBG. Noise, clock
 //! and flash pages are stand-ins, so that each run prints the same.
 //!
 //! One call at a time on a state: `main` owns it, and each call borrows it alone. Noise from interrupts or other
 //! threads would come through a queue.
 use fortuna::{
-    run_log, sha_d256, Aes256, Aes256Bytewise, Drawn, Fortuna, Health, NotDrawn, NotPassed, Quota,
-    Refusal,
+    run_log, sha_d256, Aes256, Aes256Bytewise, CtrDrbg, Drawn, Fortuna, Health, NotDrawn,
+    NotPassed, Quota, Refusal,
 };
 
 /// A source may be any number up to 65,535.
@@ -408,6 +409,49 @@ fn flood(page: &mut [u8; 64]) -> Result<(), Refusal> {
     Ok(())
 }
 
+/// Entropy input must have full entropy. Readings have not, but Fortuna makes bytes of them that nobody can tell. Each
+/// seeding gets new ones.
+fn draw_entropy(f: &mut Fortuna, clock: u32) -> Result<[u8; 48], Refusal> {
+    let mut entropy = [0; 48];
+    f.request(clock, &mut entropy)?;
+    Ok(entropy)
+}
+
+/// A byte is missing: the call says so, and the state stays as it was.
+fn cut_entropy(d: &mut CtrDrbg, entropy: &[u8; 48]) {
+    if let Err(refusal) = d.instantiate(&entropy[..47], &[]) {
+        println!("instantiate with 47 bytes: {refusal}");
+    }
+}
+
+/// With additional input, which need not be secret, or with none.
+fn draw_network_key(d: &mut CtrDrbg, additional: &[u8]) -> Result<(), Refusal> {
+    let mut key = [0; 32];
+    d.generate(&mut key, additional)?;
+    let request = d.requests().unwrap_or(0);
+    println!(
+        "key of CTR_DRBG, request {request} since its seeding: {}",
+        hexadecimal(&key)
+    );
+    Ok(())
+}
+
+/// A power-up, and noise before any entropy input is drawn. The personalization string is the station's name, so that
+/// no other starts as this one does.
+fn run_permanent(page: &mut [u8; 64]) -> Result<(), Refusal> {
+    let (mut f, mut sources, mut d) = (Fortuna::new(), start_sources(), CtrDrbg::new());
+    println!("a permanent station");
+    power_up(&mut f, &mut sources, 10, page)?;
+    gather_noise(&mut f, &mut sources)?;
+    let entropy = draw_entropy(&mut f, 1000)?;
+    cut_entropy(&mut d, &entropy);
+    d.instantiate(&entropy, b"permanent station 12")?;
+    draw_network_key(&mut d, &[])?;
+    draw_network_key(&mut d, b"link to the observatory")?;
+    d.reseed(&draw_entropy(&mut f, 2000)?, &[])?;
+    draw_network_key(&mut d, &[])
+}
+
 fn main() -> Result<(), Refusal> {
     show_edition()?;
     show_ciphers();
@@ -431,5 +475,6 @@ fn main() -> Result<(), Refusal> {
     write_seed(&mut f, 2000, &mut flash)?;
     replay();
     start_twice()?;
-    flood(&mut flash)
+    flood(&mut flash)?;
+    run_permanent(&mut flash)
 }
