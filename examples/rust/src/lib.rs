@@ -371,8 +371,9 @@ pub struct Fortuna {
     state: State,
 }
 
-// In each call below, those of Health and CtrDrbg too, a pointer and the length after it are those of one slice, which lasts for
-// the call and overlaps nothing else, nor the state. The pointer of an empty slice is not null either.
+// In each call below, those of Health and CtrDrbg too, a pointer and the length after it are those of one slice, which
+// lasts for the call. One that is written overlaps no other, and none overlaps the state. The pointer of an empty slice
+// is not null either.
 impl Fortuna {
     /// Unseeded, with empty pools.
     #[allow(clippy::new_without_default)]
