@@ -472,7 +472,7 @@ static inline bool fortuna_health_passed(fortuna_health_answer a)
 
    It is the standard's generator with AES-256 and no derivation function. Its state has nothing to do with a
    fortuna_state: it has no pools and no clock, and no call here reads or changes one. Where no rule asks for it, draw
-   from Fortuna: that takes in noise as it comes, and this takes in nothing but what is given to a seeding.
+   from Fortuna: that takes in noise as it comes, and this has only what its calls are given.
 
    How to use it:
 
@@ -483,13 +483,14 @@ static inline bool fortuna_health_passed(fortuna_health_answer a)
      tell. They may be drawn from a seeded station, by fortuna_request; examples/c/station.c does so. They are then as
      good as the noise that went into the station. Never give the same 48 bytes twice.
    - The personalization string and the additional input have up to 48 bytes each and need not be secret. A serial
-     number as the personalization string makes two stations differ that would else start alike. Shorter ones are
-     filled up to 48 bytes with zeros at the end, so zeros that you add there yourself change nothing.
+     number as the personalization string makes two stations differ that would else start alike. Zeros at the end fill
+     up what is shorter.
    - None to give: length 0, with a pointer that is still not null. In a request an empty additional input is none, and
      zeros are an input: one byte of 0 gives other bytes than none.
    - A request is for up to 65,536 bytes. One for 0 bytes is a request too: it changes Key and V, and counts.
    - After a seeding 2^48 requests are accepted, then none (FORTUNA_SEEDING_NEEDED) until a reseed.
-   - A stored state that is taken up twice gives the same bytes twice. Store none: instantiate anew at a power-up.
+   - Any state may be passed. A stored one that is taken up twice gives the same bytes twice, so store none: instantiate
+     anew at a power-up.
    - One call at a time on a state. out may overlap nothing else that the call is lent, and an input may not overlap
      the state. The two inputs of a seeding may overlap each other.
 
