@@ -3,6 +3,7 @@
    COUNT calls on states, cutoffs and samples of all kinds, malformed and stuck ones too; what it ends with is made of
    every answer and every state left. */
 #include "health.h"
+#include "numbers.h"
 #include "timing.h"
 #include <stdio.h>
 #include <stdlib.h>
@@ -11,15 +12,6 @@
 enum { SAMPLES = 65536, MOST = 600 };
 
 static uint64_t mixed = 1;
-
-/* The same numbers in each program (Vigna's splitmix64). */
-static uint32_t below(uint32_t n) {
-    static uint64_t seed;
-    uint64_t z = seed += UINT64_C(0x9e3779b97f4a7c15);
-    z = (z ^ z >> 30) * UINT64_C(0xbf58476d1ce4e5b9);
-    z = (z ^ z >> 27) * UINT64_C(0x94d049bb133111eb);
-    return (uint32_t)((z ^ z >> 31) % n);
-}
 
 static void mix(const uint32_t *numbers, size_t count) {
     for (size_t i = 0; i < count; i++) mixed = (mixed ^ numbers[i]) * UINT64_C(0x100000001b3);
