@@ -1,7 +1,7 @@
 -- What an accepted operation has passed.
 -- Assumes nothing.
 use mathlib.Core.Path.{_≡_}
-use mathlib.Core.Bool.{not}
+use mathlib.Core.Bool.{false, not}
 use Prim.Native.Nat.{ℕ, _≤_}
 use native.Mathlib.Omega.{arith}
 use lib.Dec.{eqb, ltb}
@@ -26,11 +26,12 @@ pub reseed-fits : (counter n m : ℕ) → reseedNumber counter n m ≡ 0 → (n 
 unfolding reseedNumber
 reseed-fits counter n m e = fits n m (refuse (neverSeeded counter) 42 0) e
 
-pub generate-fits : (counter n m : ℕ) → generateNumber counter n m ≡ 0 → (counter ≤ reseedInterval) × (m ≤ seedLength)
+pub generate-fits : (counter n m : ℕ) → generateNumber counter n m ≡ 0
+    → (neverSeeded counter ≡ false) × (counter ≤ reseedInterval) × (m ≤ seedLength)
 unfolding generateNumber reseedRequired
 generate-fits counter n m e =
     let late : ℕ = refuse (ltb reseedInterval counter) 42 0 in
     let p = passed (ltb seedLength m) 41 (refuse (ltb maxRequest n) 14 (refuse (neverSeeded counter) 42 late)) (omega arith) e in
     let q = passed (ltb maxRequest n) 14 (refuse (neverSeeded counter) 42 late) (omega arith) (p .1) in
     let r = passed (neverSeeded counter) 42 late (omega arith) (q .1) in
-    (ltb-false reseedInterval counter (passed (ltb reseedInterval counter) 42 0 (omega arith) (r .1) .0), ltb-false seedLength m (p .0))
+    (r .0, ltb-false reseedInterval counter (passed (ltb reseedInterval counter) 42 0 (omega arith) (r .1) .0), ltb-false seedLength m (p .0))

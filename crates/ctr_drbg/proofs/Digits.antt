@@ -14,7 +14,7 @@ use Rattle.ctr_drbg.specs.Counter.{octetsToInteger, integerToOctets, inc
 positive : (n : ℕ) → 0 < 256 ^ n
 positive n = one-le-pow n 256 (zero-lt-suc 255)
 
-pub length-octets : (n x : ℕ) → length (integerToOctets n x) ≡ n
+length-octets : (n x : ℕ) → length (integerToOctets n x) ≡ n
 unfolding integerToOctets
 length-octets zero x = refl
 length-octets (suc n) x = ap suc (length-octets n x)
@@ -34,7 +34,7 @@ low : (x c : ℕ) → 0 < c → x % (256 * c) % c ≡ x % c
 low x c h = rw (mod-mul x {m = 256} {c = c} (omega arith) h) (digits-mod (x / c % 256) (mod-lt x h))
 
 -- numbers with the same remainder have the same bytes
-pub octets-same : (n x y : ℕ) → x % 256 ^ n ≡ y % 256 ^ n → integerToOctets n x ≡ integerToOctets n y
+octets-same : (n x y : ℕ) → x % 256 ^ n ≡ y % 256 ^ n → integerToOctets n x ≡ integerToOctets n y
 unfolding integerToOctets
 octets-same zero x y e = refl
 octets-same (suc n) x y e =

@@ -2,7 +2,7 @@
 -- Assumes nothing.
 use mathlib.Core.Path.{_≡_, _∙_}
 use mathlib.Core.List.{List, append-nil}
-use Prim.Native.Nat.{ℕ, zero, suc, _+_, _-_, _≤_}
+use Prim.Native.Nat.{ℕ, _+_, _-_, _≤_}
 use native.Mathlib.Nat.{le-of-eq}
 use native.Mathlib.Omega.{arith}
 use lib.ListN.{length, take, drop, replicate, length-drop}
@@ -10,6 +10,7 @@ use lib.Seq.{take-all}
 use Rattle.laws.specs.Lists.{overwrite}
 use Rattle.laws.specs.Blocks.{blockCount}
 use Rattle.laws.proofs.Copy.{overwrite-fits, overwrite-cut}
+use Rattle.laws.proofs.Lists.{drop-replicate}
 use Rattle.cipher.specs.Aes.{Bytes, keyExpansion, cipher}
 use Rattle.cipher.proofs.Laws.{length-cipher}
 use Rattle.word_cipher.specs.Words.{packed}
@@ -24,16 +25,10 @@ use Rattle.ctr_drbg.proofs.Steps.{blocks-closed, update-closed, length-
 
 -- ---- strings of seedlen
 
--- zeros with some taken off the front
-drop-zeros : (n k : ℕ) → drop {A = ℕ} k (replicate n 0) ≡ replicate (n - k) 0
-drop-zeros n zero = let e : n - 0 ≡ n = omega arith in rw e
-drop-zeros zero (suc k) = let e : 0 - suc k ≡ 0 = omega arith in rw e
-drop-zeros (suc n) (suc k) = let e : suc n - suc k ≡ n - k = omega arith in rw e (drop-zeros n k)
-
 -- what `padded` leaves
 pub padded-is : (s r : List ℕ) → length s ≤ seedLength → r ≡ overwrite (replicate 48 0) s → r ≡ padded s
 unfolding padded seedLength
-padded-is s r h e = e ∙ overwrite-fits (replicate 48 0) s h ∙ rw (drop-zeros 48 (length s))
+padded-is s r h e = e ∙ overwrite-fits (replicate 48 0) s h ∙ rw (drop-replicate (length s) 48 0)
 
 -- a string of seedlen needs no zeros
 padded-full : (s : List ℕ) → length s ≡ seedLength → padded s ≡ s

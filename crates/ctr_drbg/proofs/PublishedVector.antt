@@ -8,7 +8,7 @@ use Rattle.cipher.specs.Field.{xtime, multiply, product, powerProduct, inverse,
 use Rattle.cipher.specs.Aes.{xPower, subBytes, shiftRows, mixedByte, mixColumns, addRoundKey, round, rounds, cipherWith, temp, nextWord, withNextWord, expand, keyExpansion, cipher}
 use Rattle.ctr_drbg.specs.Counter.{octetsToInteger, integerToOctets, increment}
 use Rattle.ctr_drbg.specs.Algorithms.{seedLength, xored, padded, divided, working, stateOf, zeroWorking, generateBlocks, update, instantiate, preparedBy, generate}
-use Rattle.ctr_drbg.specs.PublishedVector.{PublishedVector}
+use Rattle.ctr_drbg.specs.PublishedVector.{entropyInput, returnedBits, PublishedVector}
 use Rattle.ctr_drbg.specs.declared.CtrDrbg.{CtrDrbg}
 
 -- whatever unfolds one of these unfolds all that its own line names
@@ -39,7 +39,7 @@ requested =
       «reseed_counter» = 2;
     }
 
-seeding : instantiate (integerToOctets 48 0xdf5d73faa468649edda33b5cca79b0b05600419ccb7a879ddfec9db32ee494e5531b51de16a30f769262474c73bec010) [] ≡ seeded
+seeding : instantiate entropyInput [] ≡ seeded
 unfolding generating
 seeding = refl
 
@@ -47,7 +47,7 @@ first-request : generate seeded 64 [] .next ≡ requested
 unfolding generating
 first-request = refl
 
-second-request : generate requested 16 [] .bytes ≡ integerToOctets 16 0xd1c07cd95af8a7f11012c84ce48bb8cb
+second-request : generate requested 64 [] .bytes ≡ returnedBits
 unfolding generating
 second-request = refl
 

@@ -10,16 +10,16 @@ use native.Mathlib.Decide.{decLt}
 use native.Mathlib.Omega.{arith}
 use lib.Dec.{eqb, ltb, leb}
 use lib.ListN.{length, replicate}
-use borrow.Author.Tests.{eqb-true, eqb-false, ne-eqb, le-ltb, lt-ltb, le-leb, lt-leb, ltb-false}
-use Rattle.laws.specs.Lists.{countOf}
+use borrow.Author.Tests.{eqb-true, eqb-false, ne-eqb, le-ltb, lt-ltb, le-leb, lt-leb}
 use Rattle.laws.specs.Refusals.{refuse}
 use Rattle.laws.proofs.Cases.{by-test}
 use Rattle.laws.proofs.Refusals.{passed}
 use Rattle.ctr_drbg.specs.Algorithms.{seedLength, stateOf, instantiate, reseed, generate}
 use Rattle.ctr_drbg.specs.Refusals.{maxRequest, reseedInterval, neverSeeded, reseedRequired, instantiateNumber, reseedNumber, generateNumber}
 use Rattle.ctr_drbg.specs.Operations.{fresh, instantiateAnswer, instantiated, reseedAnswer, reseeded, generateAnswer, generated}
-use Rattle.ctr_drbg.specs.Runs.{Call, instantiation, reseeding, request, callNumber, callNext, numbersFrom, Seedings, logNumber, logEntry, logged, loggedNumbers, noSeeding, RunNumbers, requests, Sized, Interval}
+use Rattle.ctr_drbg.specs.Runs.{Call, instantiation, reseeding, request, callNumber, callNext, numbersFrom, Seedings, logNumber, logEntry, logged, loggedNumbers, noSeeding, RunNumbers, requests, Sized, servedBefore, AtMost, SoMany}
 use Rattle.ctr_drbg.specs.declared.CtrDrbg.{CtrDrbg}
+use Rattle.ctr_drbg.proofs.Accepted.{generate-fits}
 
 -- ---- what the reseed counter tells
 
@@ -121,15 +121,11 @@ left counter = cond (eqb counter 0) 0 (2 ^ 48 + 1 - counter)
 -- what the reseed counter of an accepted request is
 request-fits : (s : CtrDrbg) (out additional : List ℕ) → generateAnswer s out additional ≡ 0
     → (0 < s .«reseed_counter») × (s .«reseed_counter» ≤ 2 ^ 48)
-unfolding generateAnswer generateNumber neverSeeded reseedRequired reseedInterval
+unfolding generateAnswer neverSeeded reseedInterval
 request-fits s out additional e =
     let c = s .«reseed_counter» in
-    let late : ℕ = refuse (ltb (2 ^ 48) c) 42 0 in
-    let p = passed (ltb seedLength (length additional)) 41 (refuse (ltb maxRequest (length out)) 14 (refuse (eqb c 0) 42 late)) (omega arith) e in
-    let q = passed (ltb maxRequest (length out)) 14 (refuse (eqb c 0) 42 late) (omega arith) (p .1) in
-    let r = passed (eqb c 0) 42 late (omega arith) (q .1) in
-    let some : c ≢ 0 = eqb-false c 0 (r .0) in
-    (positive c some, ltb-false (2 ^ 48) c (passed (ltb (2 ^ 48) c) 42 0 (omega arith) (r .1) .0))
+    let fits = generate-fits c (length out) (length additional) e in
+    (positive c (eqb-false c 0 (fits .0)), fits .1)
   where
     positive : (n : ℕ) → n ≢ 0 → 0 < n
     positive zero h = absurd (h refl)
@@ -152,24 +148,35 @@ left-most (suc c) = rw (ne-eqb (suc c) 0 (λ e. omega arith)) (omega arith)
 
 -- one request more: it is accepted and one less is left, or it is refused
 counted : (n m c : ℕ) → (n ≡ 0 → m ≤ left (c + 1)) → (n ≡ 0 → left c ≡ 1 + left (c + 1)) → (eqb n 0 ≡ false → m ≤ left c)
-    → cond (eqb 0 n) 1 0 + m ≤ left c
+    → cond (eqb n 0) 1 0 + m ≤ left c
 counted zero m c done less refused = let h = done refl in let e = less refl in omega arith
-counted (suc n) m c done less refused = rw (ne-eqb 0 (suc n) (λ e. omega arith)) (omega (arith, refused (ne-eqb (suc n) 0 (λ e. omega arith))))
+counted (suc n) m c done less refused = rw (ne-eqb (suc n) 0 (λ e. omega arith)) (omega (arith, refused (ne-eqb (suc n) 0 (λ e. omega arith))))
 
-at-most : (s : CtrDrbg) (c : ℕ) → s .«reseed_counter» ≡ c → (rs : List (List ℕ × List ℕ)) → countOf 0 (numbersFrom s (requests rs)) ≤ left c
-unfolding numbersFrom countOf callNumber callNext
+-- a seeding: it is accepted and ends the count, or it is refused
+ended : (n m c : ℕ) → (eqb n 0 ≡ false → m ≤ left c) → cond (eqb n 0) 0 m ≤ left c
+ended zero m c refused = omega arith
+ended (suc n) m c refused = rw (ne-eqb (suc n) 0 (λ e. omega arith)) (refused (ne-eqb (suc n) 0 (λ e. omega arith)))
+
+at-most : (s : CtrDrbg) (c : ℕ) → s .«reseed_counter» ≡ c → (cs : List Call) → servedBefore s cs ≤ left c
+unfolding servedBefore callNumber callNext
 at-most s c e [] = omega arith
-at-most s c e ((out, additional) ∷ rs) =
+at-most s c e (instantiation entropy personalization ∷ cs) =
+    ended (instantiateAnswer entropy personalization) (servedBefore (instantiated s entropy personalization) cs) c
+    (λ n. rw (refused-same s (instantiation entropy personalization) n) (at-most s c e cs))
+at-most s c e (reseeding entropy additional ∷ cs) =
+    ended (reseedAnswer s entropy additional) (servedBefore (reseeded s entropy additional) cs) c
+    (λ n. rw (refused-same s (reseeding entropy additional) n) (at-most s c e cs))
+at-most s c e (request out additional ∷ cs) =
     let next = generated s out additional in
-    counted (generateAnswer s out additional) (countOf 0 (numbersFrom next (requests rs))) c
-    (λ n. at-most next (c + 1) (request-counts s out additional n ∙ ap (λ (x : ℕ). x + 1) e) rs)
+    counted (generateAnswer s out additional) (servedBefore next cs) c
+    (λ n. at-most next (c + 1) (request-counts s out additional n ∙ ap (λ (x : ℕ). x + 1) e) cs)
     (λ n. let fits = request-fits s out additional n in left-one c (omega (arith, e, fits .0)) (omega (arith, e, fits .1)))
-    (λ n. rw (refused-same s (request out additional) n) (at-most s c e rs))
+    (λ n. rw (refused-same s (request out additional) n) (at-most s c e cs))
 
-accepted : (s : CtrDrbg) (c : ℕ) → s .«reseed_counter» ≡ c → 0 < c → c ≤ 2 ^ 48 → (out additional : List ℕ) → length out ≤ 65536 → length additional ≤ 48
+request-accepted : (s : CtrDrbg) (c : ℕ) → s .«reseed_counter» ≡ c → 0 < c → c ≤ 2 ^ 48 → (out additional : List ℕ) → length out ≤ 65536 → length additional ≤ 48
     → generateAnswer s out additional ≡ 0
 unfolding generateAnswer generateNumber seedLength maxRequest neverSeeded reseedRequired reseedInterval
-accepted s c e some few out additional short given =
+request-accepted s c e some few out additional short given =
     rw (e, le-ltb 48 (length additional) given, le-ltb 65536 (length out) short, ne-eqb c 0 (λ z. omega arith), le-ltb (2 ^ 48) c few)
 
 so-many : (s : CtrDrbg) (c : ℕ) → s .«reseed_counter» ≡ c → 0 < c → (rs : List (List ℕ × List ℕ)) → Sized rs → c + length rs ≤ 2 ^ 48 + 1
@@ -177,13 +184,16 @@ so-many : (s : CtrDrbg) (c : ℕ) → s .«reseed_counter» ≡ c → 0 < c → 
 unfolding numbersFrom callNumber callNext Sized
 so-many s c e some [] sized room = refl
 so-many s c e some ((out, additional) ∷ rs) sized room =
-    let n : generateAnswer s out additional ≡ 0 = accepted s c e some (omega arith) out additional (sized .0) (sized .1) in
+    let n : generateAnswer s out additional ≡ 0 = request-accepted s c e some (omega arith) out additional (sized .0) (sized .1) in
     let counter = request-counts s out additional n ∙ ap (λ (x : ℕ). x + 1) e in
     ap₂ (λ (x : ℕ) (l : List ℕ). x ∷ l) n (so-many (generated s out additional) (c + 1) counter (omega arith) rs (sized .2) (omega arith))
 
-pub interval : (s : CtrDrbg) (rs : List (List ℕ × List ℕ)) → Interval s rs
-interval s rs =
-    record {
-      atMost = le-trans (at-most s (s .«reseed_counter») refl rs) (left-most (s .«reseed_counter»));
-      soMany = λ e sized few. so-many s 1 e (omega arith) rs sized (omega arith);
-    }
+pub at-most-served : AtMost
+at-most-served s calls = le-trans (at-most s (s .«reseed_counter») refl calls) (left-most (s .«reseed_counter»))
+
+pub so-many-served : SoMany
+unfolding instantiate reseed stateOf
+so-many-served s entropy other rs sized few = (
+  so-many (instantiate entropy other) 1 refl (omega arith) rs sized (omega arith),
+  so-many (reseed s entropy other) 1 refl (omega arith) rs sized (omega arith),
+)

@@ -3,7 +3,7 @@
 use mathlib.Core.Path.{_≡_, refl, sym, ap, _∙_}
 use mathlib.Core.Logic.{_≢_}
 use mathlib.Core.Bool.{cond}
-use mathlib.Core.List.{List, []}
+use mathlib.Core.List.{List, [], _∷_}
 use Prim.Native.Nat.{ℕ, suc, _+_, _-_, _%_, _^_, _≤_, _<_}
 use native.Mathlib.Nat.{lt-of-lt-of-le, le-of-lt, lt-of-le-of-lt, mod-lt, mod-add-mod, mod-eq-of-lt, mod-eq-sub-mod, mod-mod}
 use native.Mathlib.Decide.{decLt}
@@ -15,11 +15,11 @@ use Rattle.laws.specs.Blocks.{blockCount}
 use Rattle.laws.proofs.Tabulate.{length-tabulate, getD-tabulate}
 use Rattle.cipher.specs.Aes.{Bytes}
 use Rattle.ctr_drbg.specs.Counter.{octetsToInteger, integerToOctets, increment}
-use Rattle.ctr_drbg.specs.Algorithms.{generateBlocks, working, preparedBy, prepared, generate}
-use Rattle.ctr_drbg.specs.Closed.{after, counterBlocks, closedBlocks, closedGenerate}
+use Rattle.ctr_drbg.specs.Algorithms.{seedLength, padded, generateBlocks, update, working, preparedBy, prepared, generate}
+use Rattle.ctr_drbg.specs.Closed.{after, valuesOfV, closedBlocks, closedUpdate, closedFrom, closedGenerate}
 use Rattle.ctr_drbg.specs.Refusals.{maxRequest}
 use Rattle.ctr_drbg.specs.Operations.{number}
-use Rattle.ctr_drbg.specs.Statements.{CounterEncoding, ClosedForm, Different, NoBlockTwice, EmptyInput, NumberInjective}
+use Rattle.ctr_drbg.specs.Statements.{CounterEncoding, ClosedForm, Different, NoBlockTwice, EmptyInput, NothingAsked, NumberInjective}
 use Rattle.ctr_drbg.specs.declared.CtrDrbg.{CtrDrbg}
 use Rattle.ctr_drbg.specs.declared.update.Working.{Working}
 use Rattle.ctr_drbg.specs.declared.answer.Answer.{Answer}
@@ -65,9 +65,9 @@ steps-apart : (v : List ℕ) (i j : ℕ) → i < j → j < 2 ^ 128 → after v (
 unfolding after
 steps-apart v i j h k e =
     let x : ℕ = octetsToInteger v in
-    let number : (y : ℕ) → octetsToInteger (integerToOctets 16 (y % 2 ^ 128)) ≡ y % 2 ^ 128
+    let numberOf : (y : ℕ) → octetsToInteger (integerToOctets 16 (y % 2 ^ 128)) ≡ y % 2 ^ 128
     = λ y. integer-octets 16 (y % 2 ^ 128) ∙ mod-mod y (2 ^ 128) in
-    let same : (x + suc i) % 2 ^ 128 ≡ (x + suc j) % 2 ^ 128 = sym (number (x + suc i)) ∙ ap octetsToInteger e ∙ number (x + suc j) in
+    let same : (x + suc i) % 2 ^ 128 ≡ (x + suc j) % 2 ^ 128 = sym (numberOf (x + suc i)) ∙ ap octetsToInteger e ∙ numberOf (x + suc j) in
     let further : x + suc i + (j - i) ≡ x + suc j = omega arith in
     apart (x + suc i) (j - i) (2 ^ 128) (omega arith) (less (2 ^ 128) k) (rw further (sym same))
   where
@@ -75,12 +75,12 @@ steps-apart v i j h k e =
     less m l = omega arith
 
 -- up to 2^128 steps of V
-steps-different : (v : List ℕ) (k : ℕ) → k ≤ 2 ^ 128 → Different (counterBlocks v k)
-unfolding counterBlocks
+steps-different : (v : List ℕ) (k : ℕ) → k ≤ 2 ^ 128 → Different (valuesOfV v k)
+unfolding valuesOfV
 steps-different v k most i j h m e =
     let f : ℕ → List ℕ = λ i. after v (suc i) in
     let below : j < k = rw (length-tabulate f k) at m in
-    let at : (t : ℕ) → t < k → getD (counterBlocks v k) t [] ≡ after v (suc t) = λ t b. getD-tabulate f [] k t b in
+    let at : (t : ℕ) → t < k → getD (valuesOfV v k) t [] ≡ after v (suc t) = λ t b. getD-tabulate f [] k t b in
     steps-apart v i j h (lt-of-lt-of-le below most) (sym (at i (omega arith)) ∙ e ∙ at j below)
 
 blocks-different : (w : Working) (k : ℕ) → k ≤ 2 ^ 128 → Different (generateBlocks w k .trace)
@@ -92,7 +92,7 @@ unfolding maxRequest blockCount
 few n h = omega arith
 
 request-different : (s : CtrDrbg) (n : ℕ) (additional : List ℕ) → n ≤ maxRequest → Different (generate s n additional .trace)
-unfolding closedGenerate
+unfolding closedGenerate closedFrom
 request-different s n additional h =
     rw (generate-closed s n additional) (steps-different (prepared additional (working s) .v) (blockCount n + 3) (small _ (few n h)))
   where
@@ -102,9 +102,22 @@ request-different s n additional h =
 pub no-block-twice : NoBlockTwice
 no-block-twice = record { blocks = blocks-different; request = request-different }
 
-pub empty-input : (w : Working) → EmptyInput w
-unfolding preparedBy
-empty-input w = record { none = refl; some = λ x xs. rw (ne-eqb (suc (length xs)) 0 (λ e. omega arith)) }
+-- an update alone, in closed form
+update-now : (provided : List ℕ) (w : Working) → update provided w ≡ closedUpdate provided w 0
+unfolding generateBlocks
+update-now provided w = update-closed provided w 0
+
+pub empty-input : (s : CtrDrbg) (n : ℕ) → EmptyInput s n
+unfolding preparedBy closedGenerate padded seedLength
+empty-input s n =
+    record {
+      none = generate-closed s n [];
+      some = λ x xs. generate-closed s n (x ∷ xs) ∙ rw (ne-eqb (suc (length xs)) 0 (λ e. omega arith), update-now (padded (x ∷ xs)) (working s));
+    }
+
+pub nothing-asked : (s : CtrDrbg) (additional : List ℕ) → NothingAsked s additional
+unfolding generate generateBlocks blockCount
+nothing-asked s additional = record { bytes = refl; next = refl }
 
 -- ---- numbers
 

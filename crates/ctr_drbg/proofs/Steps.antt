@@ -13,7 +13,7 @@ use Rattle.laws.proofs.Tabulate.{tabulate-ext}
 use Rattle.cipher.specs.Aes.{Bytes, cipher}
 use Rattle.ctr_drbg.specs.Counter.{octetsToInteger, integerToOctets, increment}
 use Rattle.ctr_drbg.specs.Algorithms.{Generated, Returned, padded, divided, workingOf, working, stateOf, generateBlocks, update, zeroWorking, instantiate, reseed, prepared, generate}
-use Rattle.ctr_drbg.specs.Closed.{after, counterBlocks, enciphered, closedBlocks, closedUpdate, closedReseed, closedGenerate}
+use Rattle.ctr_drbg.specs.Closed.{after, valuesOfV, enciphered, closedBlocks, closedUpdate, closedReseed, closedFrom, closedGenerate}
 use Rattle.ctr_drbg.specs.Operations.{fresh}
 use Rattle.ctr_drbg.specs.declared.CtrDrbg.{CtrDrbg}
 use Rattle.ctr_drbg.specs.declared.update.Working.{Working}
@@ -30,7 +30,7 @@ increment-after v (suc k) =
     let e : octetsToInteger v + suc k + 1 ≡ octetsToInteger v + suc (suc k) = omega arith in
     ap (integerToOctets 16) (number-on (octetsToInteger v + suc k) 1 ∙ ap (λ (m : ℕ). m % 2 ^ 128) e)
 
-pub after-increment : (v : List ℕ) (k : ℕ) → after (increment v) k ≡ after v (suc k)
+after-increment : (v : List ℕ) (k : ℕ) → after (increment v) k ≡ after v (suc k)
 unfolding increment after
 after-increment v zero = refl
 after-increment v (suc k) =
@@ -43,9 +43,9 @@ unfolding tabulate
 tabulate-front f zero = refl
 tabulate-front {A} f (suc n) = ap (λ (l : List A). l ++ (f (suc n) ∷ [])) (tabulate-front f n)
 
-counter-blocks-front : (v : List ℕ) (k : ℕ) → counterBlocks v (suc k) ≡ increment v ∷ counterBlocks (increment v) k
-unfolding counterBlocks increment after
-counter-blocks-front v k =
+values-front : (v : List ℕ) (k : ℕ) → valuesOfV v (suc k) ≡ increment v ∷ valuesOfV (increment v) k
+unfolding valuesOfV increment after
+values-front v k =
     tabulate-front (λ i. after v (suc i)) k
     ∙ ap₂ (λ (x : List ℕ) (l : List (List ℕ)). x ∷ l) (sym (after-increment v 0))
     (tabulate-ext (λ i. after v (suc (suc i))) (λ i. after (increment v) (suc i)) k (λ i h. sym (after-increment v (suc i))))
@@ -57,11 +57,11 @@ returned-equal : (x y : Returned) → x .bytes ≡ y .bytes → x .next ≡ y .n
 returned-equal x y p q r = λ i. record { bytes = p i; next = q i; trace = r i }
 
 pub blocks-closed : (k : ℕ) (w : Working) → generateBlocks w k ≡ closedBlocks w k
-unfolding generateBlocks closedBlocks counterBlocks enciphered joined tabulate after
+unfolding generateBlocks closedBlocks valuesOfV enciphered joined tabulate after
 blocks-closed zero w = refl
 blocks-closed (suc k) w =
     let r = blocks-closed k (workingOf (w .key) (increment (w .v))) in
-    let c = counter-blocks-front (w .v) k in
+    let c = values-front (w .v) k in
     generated-equal _ _
     (ap (λ (g : Generated). cipher (w .key) (increment (w .v)) ++ g .bytes) r ∙ sym (ap (joined (cipher (w .key))) c))
     (ap (λ (g : Generated). g .next) r ∙ ap (λ (v : List ℕ). workingOf (w .key) v) (after-increment (w .v) k))
@@ -72,18 +72,18 @@ unfolding after
 after-none v = refl
 
 -- k steps, then j
-pub after-after : (v : List ℕ) (k j : ℕ) → after (after v k) j ≡ after v (k + j)
+after-after : (v : List ℕ) (k j : ℕ) → after (after v k) j ≡ after v (k + j)
 after-after v k zero = rw add-zero (after-none (after v k))
 after-after v k (suc j) =
     rw (add-suc k j) (sym (increment-after (after v k) j) ∙ ap increment (after-after v k j) ∙ increment-after v (k + j))
 
-pub counter-blocks-add : (v : List ℕ) (k m : ℕ) → counterBlocks v (k + m) ≡ counterBlocks v k ++ counterBlocks (after v k) m
-unfolding counterBlocks tabulate
-counter-blocks-add v k zero = rw (add-zero k, append-nil)
-counter-blocks-add v k (suc m) =
+values-add : (v : List ℕ) (k m : ℕ) → valuesOfV v (k + m) ≡ valuesOfV v k ++ valuesOfV (after v k) m
+unfolding valuesOfV tabulate
+values-add v k zero = rw (add-zero k, append-nil)
+values-add v k (suc m) =
     rw (add-suc k m)
-    (ap₂ (λ (l : List (List ℕ)) (b : List ℕ). l ++ (b ∷ [])) (counter-blocks-add v k m) (rw (add-suc k m) at (sym (after-after v k (suc m))))
-    ∙ append-assoc (counterBlocks v k) (counterBlocks (after v k) m) (after (after v k) (suc m) ∷ []))
+    (ap₂ (λ (l : List (List ℕ)) (b : List ℕ). l ++ (b ∷ [])) (values-add v k m) (rw (add-suc k m) at (sym (after-after v k (suc m))))
+    ∙ append-assoc (valuesOfV v k) (valuesOfV (after v k) m) (after (after v k) (suc m) ∷ []))
 
 pub update-closed : (provided : List ℕ) (w : Working) (k : ℕ) → update provided (generateBlocks w k .next) ≡ closedUpdate provided w k
 unfolding update closedUpdate closedBlocks
@@ -98,21 +98,21 @@ unfolding instantiate zeroWorking stateOf update divided closedReseed closedBloc
 instantiate-closed entropy personalization = rw (blocks-closed 3 (workingOf (replicate 32 0) (replicate 16 0)))
 
 pub generate-closed : (s : CtrDrbg) (n : ℕ) (additional : List ℕ) → generate s n additional ≡ closedGenerate s n additional
-unfolding generate closedGenerate closedBlocks
+unfolding generate closedGenerate closedFrom closedBlocks
 generate-closed s n additional =
     let w = prepared additional (working s) in
     let k = blockCount n in
     rw (update-closed (padded additional) w k, blocks-closed k w, blocks-closed 3 (workingOf (w .key) (after (w .v) k)))
-    (returned-equal _ _ refl refl (sym (counter-blocks-add (w .v) k 3)))
+    (returned-equal _ _ refl refl (sym (values-add (w .v) k 3)))
 
 -- blocks of 16 bytes that f makes of the values of V
 module _ (f : List ℕ → List ℕ) where
   pub enciphered-more : (v : List ℕ) (k : ℕ) → enciphered f v (suc k) ≡ enciphered f v k ++ f (after v (suc k))
-  unfolding enciphered counterBlocks tabulate
-  enciphered-more v k = joined-append f (counterBlocks v k) (after v (suc k) ∷ []) ∙ rw (joined-one f (after v (suc k)))
+  unfolding enciphered valuesOfV tabulate
+  enciphered-more v k = joined-append f (valuesOfV v k) (after v (suc k) ∷ []) ∙ rw (joined-one f (after v (suc k)))
 
   pub enciphered-none : (v : List ℕ) → enciphered f v 0 ≡ []
-  unfolding enciphered counterBlocks tabulate joined
+  unfolding enciphered valuesOfV tabulate joined
   enciphered-none v = refl
 
   pub length-enciphered : ((b : List ℕ) → length (f b) ≡ 16) → (v : List ℕ) (k : ℕ) → length (enciphered f v k) ≡ 16 * k

@@ -59,7 +59,7 @@ generateBlocks w (suc k) =
 unfoldable pub divided : List ℕ → Working
 divided temp = workingOf (take 32 temp) (drop 32 temp)
 
--- three blocks are seedlen
+-- steps 2 to 7; three blocks are seedlen, so that step 3 cuts nothing off
 unfoldable pub update : List ℕ → Working → Working
 update provided w = divided (xored (generateBlocks w 3 .bytes) provided)
 

@@ -10,18 +10,18 @@ use Rattle.ctr_drbg.specs.Algorithms.{xored, padded, divided, workingOf}
 use Rattle.ctr_drbg.specs.Refusals.{instantiateNumber, reseedNumber, generateNumber}
 
 -- k bytes of FF behind a byte x and zeros, 16 in all
-abbrev pub filledUp : ℕ → ℕ → List ℕ
-filledUp x k = replicate (15 - k) 0 ++ (x ∷ replicate k 0xff)
+abbrev pub beforeCarry : ℕ → ℕ → List ℕ
+beforeCarry x k = replicate (15 - k) 0 ++ (x ∷ replicate k 0xff)
 
 -- the same with the last k bytes 0
-abbrev pub emptied : ℕ → ℕ → List ℕ
-emptied x k = replicate (15 - k) 0 ++ (x ∷ replicate k 0)
+abbrev pub afterCarry : ℕ → ℕ → List ℕ
+afterCarry x k = replicate (15 - k) 0 ++ (x ∷ replicate k 0)
 
 -- V steps at its last byte, carries over FF, 2^32, 2^64, 2^96 and up to its first byte, and goes from 2^128 - 1 to 0
 abbrev pub StepsRow : Type 0
 StepsRow =
-    map increment (filledUp 0 0 ∷ filledUp 0xfe 0 ∷ filledUp 0 1 ∷ filledUp 7 4 ∷ filledUp 7 8 ∷ filledUp 7 12 ∷ filledUp 0xfe 15 ∷ filledUp 0xff 15 ∷ [])
-    ≡ emptied 1 0 ∷ emptied 0xff 0 ∷ emptied 1 1 ∷ emptied 8 4 ∷ emptied 8 8 ∷ emptied 8 12 ∷ emptied 0xff 15 ∷ emptied 0 15 ∷ []
+    map increment (beforeCarry 0 0 ∷ beforeCarry 0xfe 0 ∷ beforeCarry 0 1 ∷ beforeCarry 7 4 ∷ beforeCarry 7 8 ∷ beforeCarry 7 12 ∷ beforeCarry 0xfe 15 ∷ beforeCarry 0xff 15 ∷ [])
+    ≡ afterCarry 1 0 ∷ afterCarry 0xff 0 ∷ afterCarry 1 1 ∷ afterCarry 8 4 ∷ afterCarry 8 8 ∷ afterCarry 8 12 ∷ afterCarry 0xff 15 ∷ afterCarry 0 15 ∷ []
 
 -- the most significant byte comes first
 abbrev pub NumbersRow : Type 0

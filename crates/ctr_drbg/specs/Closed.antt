@@ -16,20 +16,20 @@ unfoldable pub after : List ℕ → ℕ → List ℕ
 after v zero = v
 after v (suc k) = integerToOctets 16 ((octetsToInteger v + suc k) % 2 ^ 128)
 
--- the counter blocks of k turns: V after 1, 2, .., k steps
-unfoldable pub counterBlocks : List ℕ → ℕ → List (List ℕ)
-counterBlocks v k = tabulate (λ i. after v (suc i)) k
+-- the values of V in k turns: V after 1, 2, .., k steps
+unfoldable pub valuesOfV : List ℕ → ℕ → List (List ℕ)
+valuesOfV v k = tabulate (λ i. after v (suc i)) k
 
 -- the blocks that `encipher` makes of them, joined
 unfoldable pub enciphered : (List ℕ → List ℕ) → List ℕ → ℕ → List ℕ
-enciphered encipher v k = joined encipher (counterBlocks v k)
+enciphered encipher v k = joined encipher (valuesOfV v k)
 
 unfoldable pub closedBlocks : Working → ℕ → Generated
 closedBlocks w k =
     record {
       bytes = enciphered (cipher (w .key)) (w .v) k;
       next = workingOf (w .key) (after (w .v) k);
-      trace = counterBlocks (w .v) k;
+      trace = valuesOfV (w .v) k;
     }
 
 -- Key and V updated behind k blocks of output: the next three blocks, with the provided data
@@ -42,12 +42,14 @@ closedReseed s entropy additional =
     let temp = xored (enciphered (cipher (s .key)) (s .v) 3) (xored entropy (padded additional)) in
     record { key = take 32 temp; v = drop 32 temp; «reseed_counter» = 1 }
 
--- a request, from Key and V as its first update left them
-unfoldable pub closedGenerate : CtrDrbg → ℕ → List ℕ → Returned
-closedGenerate s n additional =
-    let w = prepared additional (working s) in
+-- a request's n bytes and the update behind them, from Key and V as its first update left them
+unfoldable pub closedFrom : Working → ℕ → List ℕ → ℕ → Returned
+closedFrom w n provided counter =
     record {
       bytes = take n (enciphered (cipher (w .key)) (w .v) (blockCount n));
-      next = stateOf (closedUpdate (padded additional) w (blockCount n)) (s .«reseed_counter» + 1);
-      trace = counterBlocks (w .v) (blockCount n + 3);
+      next = stateOf (closedUpdate provided w (blockCount n)) counter;
+      trace = valuesOfV (w .v) (blockCount n + 3);
     }
+
+unfoldable pub closedGenerate : CtrDrbg → ℕ → List ℕ → Returned
+closedGenerate s n additional = closedFrom (prepared additional (working s)) n (padded additional) (s .«reseed_counter» + 1)

@@ -10,7 +10,7 @@ use Rattle.ctr_drbg.specs.declared.CtrDrbg.{CtrDrbg}
 use Rattle.ctr_drbg.specs.declared.answer.Answer.{Answer}
 use Rattle.ctr_drbg.specs.declared.answer.Answer.the-variants.{Done, RequestTooLong, EntropyLength, InputTooLong, SeedingNeeded}
 
--- 02's number of an answer, 0 where the operation was done
+-- the number of an answer, 0 where the operation was done
 unfoldable pub number : Answer → ℕ
 number Done = 0
 number RequestTooLong = 14

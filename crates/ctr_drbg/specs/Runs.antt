@@ -6,8 +6,8 @@ use mathlib.Core.List.{List, [], _∷_, map}
 use Prim.Native.Nat.{ℕ, _+_, _^_, _≤_}
 use lib.Dec.{eqb, ltb, leb}
 use lib.ListN.{length, replicate}
-use Rattle.laws.specs.Lists.{countOf}
 use Rattle.laws.specs.Refusals.{refuse}
+use Rattle.ctr_drbg.specs.Algorithms.{instantiate, reseed}
 use Rattle.ctr_drbg.specs.Operations.{fresh, instantiateAnswer, instantiated, reseedAnswer, reseeded, generateAnswer, generated}
 use Rattle.ctr_drbg.specs.declared.CtrDrbg.{CtrDrbg}
 
@@ -81,8 +81,21 @@ unfoldable pub Sized : List (List ℕ × List ℕ) → Type 0
 Sized [] = Unit {0}
 Sized (r ∷ rs) = (length (r .0) ≤ 65536) × (length (r .1) ≤ 48) × Sized rs
 
--- between two seedings at most 2^48 requests are accepted, whatever the state; behind a seeding, which leaves the reseed counter at
--- 1, it is all of them up to that number
-pub record Interval (s : CtrDrbg) (rs : List (List ℕ × List ℕ)) : Type 0 where
-  pub atMost : countOf 0 (numbersFrom s (requests rs)) ≤ 2 ^ 48
-  pub soMany : s .«reseed_counter» ≡ 1 → Sized rs → length rs ≤ 2 ^ 48 → numbersFrom s (requests rs) ≡ replicate (length rs) 0
+-- how many requests of a list of calls are accepted before its first accepted seeding
+unfoldable pub servedBefore : CtrDrbg → List Call → ℕ
+servedBefore s [] = 0
+servedBefore s (instantiation entropy personalization ∷ cs) =
+    cond (eqb (instantiateAnswer entropy personalization) 0) 0 (servedBefore (instantiated s entropy personalization) cs)
+servedBefore s (reseeding entropy additional ∷ cs) = cond (eqb (reseedAnswer s entropy additional) 0) 0 (servedBefore (reseeded s entropy additional) cs)
+servedBefore s (request buffer additional ∷ cs) =
+    cond (eqb (generateAnswer s buffer additional) 0) 1 0 + servedBefore (generated s buffer additional) cs
+
+-- from every state at most 2^48 requests are accepted before the next seeding, whatever calls are refused in between
+abbrev pub AtMost : Type 0
+AtMost = (s : CtrDrbg) (calls : List Call) → servedBefore s calls ≤ 2 ^ 48
+
+-- and behind a seeding all are, up to that number
+abbrev pub SoMany : Type 0
+SoMany = (s : CtrDrbg) (entropy other : List ℕ) (rs : List (List ℕ × List ℕ)) → Sized rs → length rs ≤ 2 ^ 48
+    → (numbersFrom (instantiate entropy other) (requests rs) ≡ replicate (length rs) 0)
+    × (numbersFrom (reseed s entropy other) (requests rs) ≡ replicate (length rs) 0)

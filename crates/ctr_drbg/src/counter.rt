@@ -1,4 +1,4 @@
-// V: 128 bits in 16 bytes, most significant first. V is secret, so that no branch goes by its bits.
+// V: 128 bits in 16 bytes, most significant first. V is secret, so no branch depends on its bits.
 ghost use mathlib.Core.Path.{_≡_};
 ghost use Rattle.ctr_drbg.specs.Counter.{increment};
 

@@ -2,14 +2,14 @@
 -- Assumes nothing.
 use mathlib.Core.Path.{_≡_, ap, sym, subst, _∙_}
 use mathlib.Core.List.{List, [], _∷_, _++_, append-assoc, append-nil}
-use Prim.Native.Nat.{ℕ, zero, suc, _+_, _-_, _*_, _/_, _%_, _^_, _≤_, _<_}
-use native.Mathlib.Nat.{sub-zero, zero-sub, suc-sub-suc}
+use Prim.Native.Nat.{ℕ, _+_, _-_, _*_, _/_, _%_, _^_, _≤_, _<_}
 use native.Mathlib.Omega.{arith}
 use lib.ListN.{length, take, drop, replicate, length-append, length-drop, length-replicate, replicate-append-replicate, drop-of-length-le}
 use lib.Seq.{take-all, take-at, drop-at, length-take-le}
 use lib.Pow.{field, mod-mod-pow}
 use Rattle.laws.specs.Lists.{tabulate, overwrite}
 use Rattle.laws.proofs.Copy.{overwrite-fits}
+use Rattle.laws.proofs.Lists.{drop-replicate}
 use Rattle.hash.specs.Padding.{lengthByte, zeroBytes, padding}
 use Rattle.hash.specs.Hasher.{zeroFilled}
 
@@ -21,11 +21,6 @@ byte-mod x n j k e =
 
 zeros-add : (n m : ℕ) → replicate {A = ℕ} (n + m) 0 ≡ replicate n 0 ++ replicate m 0
 zeros-add n m = sym (replicate-append-replicate {A = ℕ} n m 0)
-
-drop-replicate : (n m x : ℕ) → drop n (replicate m x) ≡ replicate (m - n) x
-drop-replicate zero m x = rw sub-zero
-drop-replicate (suc n) zero x = rw zero-sub
-drop-replicate (suc n) (suc m) x = rw suc-sub-suc (drop-replicate n m x)
 
 -- what the two copies of `filled` leave: b is written over the part of f from at on
 pub filled-is : (t s f b : List ℕ) (at : ℕ) → length t ≡ 64 → at + length s ≤ 64 → f ≡ overwrite (replicate 64 0) (take at t)

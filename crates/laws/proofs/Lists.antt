@@ -4,11 +4,12 @@ use mathlib.Core.Path.{_≡_, refl, sym, ap, _∙_}
 use mathlib.Core.Logic.{_≢_}
 use mathlib.Core.Bool.{true, true≢false}
 use mathlib.Core.List.{List, [], _∷_, _++_, append-assoc, append-nil, map}
-use Prim.Native.Nat.{ℕ, zero, suc, _<_}
+use Prim.Native.Nat.{ℕ, zero, suc, _-_, _<_}
+use native.Mathlib.Nat.{sub-zero, zero-sub, suc-sub-suc}
 use mir.Val.{Fits}
 use mir.Syntax.{w8}
 use lib.Dec.{eqb}
-use lib.ListN.{length, getD, set, replicate, length-set, length-replicate, getD-replicate}
+use lib.ListN.{length, getD, drop, set, replicate, length-set, length-replicate, getD-replicate}
 use lib.Seq.{ext-getD, getD-set-same, getD-set-other}
 use borrow.Author.Tests.{eqb-true, eqb-false, eq-eqb}
 use Rattle.laws.specs.Lists.{tabulate, allZero, sameList, joined}
@@ -60,6 +61,13 @@ module _ {A : Type 0} where
     where
       read : (i : ℕ) → i < n → getD (replicate n x) i x ≡ getD (tabulate f n) i x
       read i h = getD-replicate n i x x h ∙ sym (getD-tabulate f x n i h ∙ e i)
+
+-- ---- a list of one element, some of it taken off the front
+
+pub drop-replicate : (n m x : ℕ) → drop n (replicate m x) ≡ replicate (m - n) x
+drop-replicate zero m x = rw sub-zero
+drop-replicate (suc n) zero x = rw zero-sub
+drop-replicate (suc n) (suc m) x = rw suc-sub-suc (drop-replicate n m x)
 
 -- ---- bytes, and a store
 

@@ -19,7 +19,8 @@ served-requires c κs =
     let branch = c .before in
     let asked = branch .before in
     let done = asked .is-done in
-    generate-fits _ _ _ (accepted _ _ (done .result) (asked .before .generate-answer .ensures) (done .ensures) (branch .if1 .taken))
+    let fits = generate-fits _ _ _ (accepted _ _ (done .result) (asked .before .generate-answer .ensures) (done .ensures) (branch .if1 .taken)) in
+    (fits .1, fits .2)
 
 same-length : tie.Need-same-length
 same-length c = search needs
