@@ -514,8 +514,8 @@ fortuna_ctr_drbg fortuna_ctr_drbg_new(void);
 uint32_t fortuna_ctr_drbg_instantiate(fortuna_ctr_drbg *state, const uint8_t *entropy, size_t length,
                                       const uint8_t *personalization, size_t personalization_length);
 
-/* A reseed (10.2.1.4.1), with 48 new bytes of entropy input and up to 48 bytes at additional. What the state holds stays
-   in: who knows the new entropy input alone does not know the next bytes.
+/* A reseed (10.2.1.4.1), with 48 new bytes of entropy input and up to 48 bytes at additional. What the state holds
+   stays in: who knows the new entropy input alone does not know the next bytes.
    FORTUNA_DONE, FORTUNA_ENTROPY_LENGTH, FORTUNA_INPUT_TOO_LONG or FORTUNA_SEEDING_NEEDED. */
 uint32_t fortuna_ctr_drbg_reseed(fortuna_ctr_drbg *state, const uint8_t *entropy, size_t length,
                                  const uint8_t *additional, size_t additional_length);
