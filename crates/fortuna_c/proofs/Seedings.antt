@@ -86,18 +86,28 @@ stayed = (stay-ref (0 ∷ []) tt (plain (λ _. T.the-row)), (stay-none-slice (1 
 abbrev pub Says : Type 0
 Says = CtrDrbg → List ℕ → List ℕ → (ℕ × CtrDrbg)
 
-module _ (says-of : Says) {M : Type 1} (𝓤 : URA M) where
-  -- what the call and its method promise
-  abbrev leaves : Clauses 𝓤 ended
-  leaves κs a = record { ghost = Unit {0}; requires = λ _. emp 𝓤; ensures = λ _ r e. fact 𝓤 ((r ≡ says-of (now (a .0)) (now (a .1 .0)) (now (a .1 .1 .0)) .0) × (now (e .0) ≡ says-of (now (a .0)) (now (a .1 .0)) (now (a .1 .1 .0)) .1)) }
+-- what its call in C promises of number and state, which follows from what it says
+abbrev pub Leaves : Type 1
+Leaves = CtrDrbg → List ℕ → List ℕ → ℕ → CtrDrbg → Type 0
 
+abbrev pub Follows : Says → Leaves → Type 0
+Follows says-of Left = (s : CtrDrbg) (entropy other : List ℕ) (n : ℕ) (next : CtrDrbg)
+    → n ≡ says-of s entropy other .0 → next ≡ says-of s entropy other .1 → Left s entropy other n next
+
+module _ (Left : Leaves) {M : Type 1} (𝓤 : URA M) where
+  -- what the call promises
+  abbrev leaves : Clauses 𝓤 ended
+  leaves κs a = record { ghost = Unit {0}; requires = λ _. emp 𝓤; ensures = λ _ r e. fact 𝓤 (Left (now (a .0)) (now (a .1 .0)) (now (a .1 .1 .0)) r (now (e .0))) }
+
+module _ (says-of : Says) {M : Type 1} (𝓤 : URA M) where
+  -- what its method promises
   abbrev seeds : Clauses 𝓤 seeding
   seeds κs a = record { ghost = Unit {0}; requires = λ _. emp 𝓤; ensures = λ _ r e. fact 𝓤 ((number (r .answer) ≡ says-of (a .0) (now (a .1 .0)) (now (a .1 .1 .0)) .0) × (r .next ≡ says-of (a .0) (now (a .1 .0)) (now (a .1 .1 .0)) .1)) }
 
   abbrev pub Seeded : (H : Heap 𝓤) (A : Atoms 𝓤) → Contract 𝓤
   Seeded H A = tripleOf 𝓤 H A (seeding .signature) (closing 𝓤 H A seeding seeds)
 
-module _ (says-of : Says) (key : Name) {M : Type 1} (𝓤 : URA M) (H : Heap 𝓤) (A : Atoms 𝓤) (W : Given 𝓤 H A) (mem : Memory → SProp 𝓤) (run : Routine → Fun 𝓤) (κ κ₁ κ₂ : Lft) (bounds : AllOutlive 3 (ended .signature .outlives) (κ, (κ₁, (κ₂, tt)))) (q q₁ q₂ : Share) (b o : ℕ) (γ : GName) (h : CtrDrbg) (s₁ s₂ : RefT (List ℕ)) where
+module _ (says-of : Says) (Left : Leaves) (follows : Follows says-of Left) (key : Name) {M : Type 1} (𝓤 : URA M) (H : Heap 𝓤) (A : Atoms 𝓤) (W : Given 𝓤 H A) (mem : Memory → SProp 𝓤) (run : Routine → Fun 𝓤) (κ κ₁ κ₂ : Lft) (bounds : AllOutlive 3 (ended .signature .outlives) (κ, (κ₁, (κ₂, tt)))) (q q₁ q₂ : Share) (b o : ℕ) (γ : GName) (h : CtrDrbg) (s₁ s₂ : RefT (List ℕ)) where
   -- the entropy input and the other input, with their machine values
   abbrev v₁ : Val
   v₁ = sliceVal (s₁ .ptr) (length (s₁ .now))
@@ -118,16 +128,16 @@ module _ (says-of : Says) (key : Name) {M : Type 1} (𝓤 : URA M) (H : Heap �
   Own₂ = ShrSlice (named 2) κ₂ u8 .own s₂ (v₂ ∷ [])
 
   abbrev Post : Val → SProp 𝓤
-  Post = walkOf 𝓤 H A ended stayed (leaves says-of 𝓤) .post (((κ, (κ₁, (κ₂, tt))), (q, (q₁, (q₂, tt))), bounds, x, at), tt)
+  Post = walkOf 𝓤 H A ended stayed (leaves Left 𝓤) .post (((κ, (κ₁, (κ₂, tt))), (q, (q₁, (q₂, tt))), bounds, x, at), tt)
 
   abbrev said : ℕ × CtrDrbg
   said = says-of h (s₁ .now) (s₂ .now)
 
-  exits : (n : ℕ) (d : CtrDrbg) → (n ≡ said .0) × (d ≡ said .1) → n < 2 ^ 32
+  exits : (n : ℕ) (d : CtrDrbg) → Left h (s₁ .now) (s₂ .now) n d → n < 2 ^ 32
       → ent 𝓤 (⋆ 𝓤 H A (‵ (sees γ d) ∷ ‵ (lent κ γ b o) ∷ ‵ (flft κ q) ∷ (‵ (flft κ₁ q₁) ⊛ ‵ (flft κ₂ q₂) ⊛ ‵ ftrue) ∷ ‵ Own₁ ∷ ‵ Own₂ ∷ [])) (Post (vint w32 n))
   exits n d e fits =
       qed W (‵ (sees γ d) ∷ ‵ (lent κ γ b o) ∷ ‵ (flft κ q) ∷ (‵ (flft κ₁ q₁) ⊛ ‵ (flft κ₂ q₂) ⊛ ‵ ftrue) ∷ ‵ Own₁ ∷ ‵ Own₂ ∷ []) ∵
-      suffices ! _ (ends-at 𝓤 H A ended stayed (leaves says-of 𝓤) W (((κ, (κ₁, (κ₂, tt))), (q, (q₁, (q₂, tt))), bounds, x, at), tt) (vint w32 n) n (d, (tt, (tt, tt))) (tt, (tt, (tt, tt)))) $
+      suffices ! _ (ends-at 𝓤 H A ended stayed (leaves Left 𝓤) W (((κ, (κ₁, (κ₂, tt))), (q, (q₁, (q₂, tt))), bounds, x, at), tt) (vint w32 n) n (d, (tt, (tt, tt))) (tt, (tt, (tt, tt)))) $
       says ! e $ move ! (2 ∷ 3 ∷ []) $ join ! $ frame ! $ feqI ! (List Val) (vptr b o ∷ []) (vptr b o ∷ []) refl $ fjoin3 ! $ nothing ! $ move ! (3 ∷ 0 ∷ []) $ fjoin ! $ move ! (2 ∷ 0 ∷ []) $ fjoin ! $ move ! (1 ∷ 0 ∷ []) $ fjoin ! $
       owned ! u32 (Is u32) (uint-makes 𝓤 H A W w32) n _ (refl, fits) $ move ! (1 ∷ 0 ∷ []) $ done !
 
@@ -173,16 +183,16 @@ module _ (says-of : Says) (key : Name) {M : Type 1} (𝓤 : URA M) (H : Heap �
         move ! (1 ∷ 2 ∷ 3 ∷ 4 ∷ []) $ shut-whole T.the-type T′.the-laws T′.the-plain ! tt (r .next) (next-is r u₁ is) b o $
         returns ! (look ! 16 refl) $ forget ! 16 refl $ forget ! 14 refl $ forget ! 12 refl $ forget ! 10 refl $ forget ! 8 refl $ forget ! 6 refl $
         move ! (16 ∷ 17 ∷ []) $ free1 ! $ move ! (14 ∷ 15 ∷ []) $ free1 ! $ move ! (12 ∷ 13 ∷ []) $ free1 ! $ move ! (10 ∷ 11 ∷ []) $ free1 ! $ move ! (8 ∷ 9 ∷ []) $ free1 ! $ move ! (6 ∷ 7 ∷ []) $ free1 ! $ free0 ! $
-        keep ! (0 ∷ 1 ∷ 2 ∷ 3 ∷ 5 ∷ 4 ∷ []) $ by ! (exits n (r .next) (e₂ ∙ e .0, e .1) (is₂ .1)))))))))))))))))
+        keep ! (0 ∷ 1 ∷ 2 ∷ 3 ∷ 5 ∷ 4 ∷ []) $ by ! (exits n (r .next) (follows h (s₁ .now) (s₂ .now) n (r .next) (e₂ ∙ e .0) (e .1)) (is₂ .1)))))))))))))))))
 
-module _ (says-of : Says) (key : Name) {M : Type 1} (𝓤 : URA M) (H : Heap 𝓤) (A : Atoms 𝓤) (W : Given 𝓤 H A) (mem : Memory → SProp 𝓤) (run : Routine → Fun 𝓤) where
-  walks : (C : Calls 𝓤 H) (Λ : Loops 𝓤 H) → FmC 𝓤 H (W .laws) C → Triple 𝓤 (C key) (Seeded says-of 𝓤 H A) → Triple 𝓤 (C key-number) (Numbered 𝓤 H A mem run) → Walks 𝓤 H A ended stayed (WpFn 𝓤 H C Λ (function key)) (leaves says-of 𝓤)
-  walks C Λ fm k₁ k₂ = walked 𝓤 H A ended stayed (leaves says-of 𝓤) (WpFn 𝓤 H C Λ (function key)) (λ κs. (ptr-vals, (slice-vals, (slice-vals, tt))))
+module _ (says-of : Says) (Left : Leaves) (follows : Follows says-of Left) (key : Name) {M : Type 1} (𝓤 : URA M) (H : Heap 𝓤) (A : Atoms 𝓤) (W : Given 𝓤 H A) (mem : Memory → SProp 𝓤) (run : Routine → Fun 𝓤) where
+  walks : (C : Calls 𝓤 H) (Λ : Loops 𝓤 H) → FmC 𝓤 H (W .laws) C → Triple 𝓤 (C key) (Seeded says-of 𝓤 H A) → Triple 𝓤 (C key-number) (Numbered 𝓤 H A mem run) → Walks 𝓤 H A ended stayed (WpFn 𝓤 H C Λ (function key)) (leaves Left 𝓤)
+  walks C Λ fm k₁ k₂ = walked 𝓤 H A ended stayed (leaves Left 𝓤) (WpFn 𝓤 H C Λ (function key)) (λ κs. (ptr-vals, (slice-vals, (slice-vals, tt))))
       (λ κs. (mut-tells (named 0) (κs .0) T.the-row, (shr-slice-tells (named 1) (κs .1 .0) u8, (shr-slice-tells (named 2) (κs .1 .1 .0) u8, tt))))
-      (λ κs qs bounds a _ are. via 𝓤 _ (fst∗ 𝓤 _ (emp 𝓤)) (walk says-of key 𝓤 H A W mem run (κs .0) (κs .1 .0) (κs .1 .1 .0) bounds (qs .0) (qs .1 .0) (qs .1 .1 .0) (a .0 .ptr .0) (a .0 .ptr .1) (a .0 .name) (a .0 .now) (a .1 .0) (a .1 .1 .0) C Λ fm k₁ k₂ (are .1 .0) (are .1 .1 .0)))
+      (λ κs qs bounds a _ are. via 𝓤 _ (fst∗ 𝓤 _ (emp 𝓤)) (walk says-of Left follows key 𝓤 H A W mem run (κs .0) (κs .1 .0) (κs .1 .1 .0) bounds (qs .0) (qs .1 .0) (qs .1 .1 .0) (a .0 .ptr .0) (a .0 .ptr .1) (a .0 .name) (a .0 .now) (a .1 .0) (a .1 .1 .0) C Λ fm k₁ k₂ (are .1 .0) (are .1 .1 .0)))
 
   pub meets : (𝓣 : Tables 𝓤 H) → Triple 𝓤 (𝓣 .C key) (Seeded says-of 𝓤 H A) → Triple 𝓤 (𝓣 .C key-number) (Numbered 𝓤 H A mem run)
-      → Meets 𝓤 H A (ended .signature) (WpFn 𝓤 H (𝓣 .C) (𝓣 .Λ) (function key)) (closing 𝓤 H A ended (leaves says-of 𝓤))
+      → Meets 𝓤 H A (ended .signature) (WpFn 𝓤 H (𝓣 .C) (𝓣 .Λ) (function key)) (closing 𝓤 H A ended (leaves Left 𝓤))
   meets 𝓣 k₁ k₂ =
-      walk-meets 𝓤 H A ended stayed W (goes-ref 𝓤 H A W 3 0 tt (plain (λ _. T.the-row)), (goes-none-slice 𝓤 H A W 3 (1 ∷ []) tt (plain (λ _. u8)) yes, (goes-none-slice 𝓤 H A W 3 (2 ∷ []) tt (plain (λ _. u8)) yes, tt))) (leaves says-of 𝓤)
+      walk-meets 𝓤 H A ended stayed W (goes-ref 𝓤 H A W 3 0 tt (plain (λ _. T.the-row)), (goes-none-slice 𝓤 H A W 3 (1 ∷ []) tt (plain (λ _. u8)) yes, (goes-none-slice 𝓤 H A W 3 (2 ∷ []) tt (plain (λ _. u8)) yes, tt))) (leaves Left 𝓤)
       (WpFn 𝓤 H (𝓣 .C) (𝓣 .Λ) (function key)) (WpFn-mono 𝓤 H (W .laws) 𝓣 (function key)) (walks (𝓣 .C) (𝓣 .Λ) (fmOf 𝓤 H (W .laws) 𝓣) k₁ k₂)

@@ -117,6 +117,9 @@ module _ {M : Type 1} (𝓤 : URA M) (H : Heap 𝓤) (A : Atoms 𝓤) (W : Given
   abbrev Serves : Outcome → List ℕ → Type 0
   Serves r zs = (number (r .answer) ≡ generateAnswer h ys (s₂ .now)) × (r .next ≡ generated h ys (s₂ .now)) × (zs ≡ generateBuffer h ys (s₂ .now))
 
+  leaves : (r : Outcome) (n : ℕ) (zs : List ℕ) → Serves r zs → n ≡ number (r .answer) → Leaves n (r .next) zs
+  leaves r n zs served told = (told ∙ served .0, served .1, served .2)
+
   module _ (C : Calls 𝓤 H) (Λ : Loops 𝓤 H) (fm : FmC 𝓤 H (W .laws) C) (known-serve : Triple 𝓤 (C key-method) (Served 𝓤 H A mem run)) (known-number : Triple 𝓤 (C key-number) (Numbered 𝓤 H A mem run)) where
     walk : Is (ShrSlice (named 2) κ₂ u8) s₂ (v₂ ∷ []) → ent 𝓤 (onEntry 𝓤 H A f.signature (κ, (κ₁, (κ₂, tt))) (q, (q₁, (q₂, tt))) x at) (WpFn 𝓤 H C Λ code.function (vptr b o ∷ v₁ ∷ v₂ ∷ []) Post)
     walk sp =
@@ -146,7 +149,7 @@ module _ {M : Type 1} (𝓤 : URA M) (H : Heap 𝓤) (A : Atoms 𝓤) (W : Given
         move ! (2 ∷ 3 ∷ 4 ∷ 5 ∷ []) $ shut-whole T.the-type T′.the-laws T′.the-plain ! tt (r .next) (next-is r u₁ is) b o $
         returns ! (look ! 20 refl) $ forget ! 20 refl $ forget ! 18 refl $ forget ! 16 refl $ forget ! 14 refl $ forget ! 12 refl $ forget ! 10 refl $ forget ! 8 refl $ forget ! 6 refl $
         move ! (20 ∷ 21 ∷ []) $ free1 ! $ move ! (18 ∷ 19 ∷ []) $ free1 ! $ move ! (16 ∷ 17 ∷ []) $ free1 ! $ move ! (14 ∷ 15 ∷ []) $ free1 ! $ move ! (12 ∷ 13 ∷ []) $ free1 ! $ move ! (10 ∷ 11 ∷ []) $ free1 ! $ move ! (8 ∷ 9 ∷ []) $ free1 ! $ move ! (6 ∷ 7 ∷ []) $ free1 ! $ free0 ! $
-        keep ! (0 ∷ 1 ∷ 2 ∷ 3 ∷ 4 ∷ 5 ∷ []) $ by ! (exits n (r .next) (zs .1 .0) (e₂ ∙ e .0, e .1, e .2) l (is₂ .1)))))))))))))))))))))
+        keep ! (0 ∷ 1 ∷ 2 ∷ 3 ∷ 4 ∷ 5 ∷ []) $ by ! (exits n (r .next) (zs .1 .0) (leaves r n (zs .1 .0) e e₂) l (is₂ .1)))))))))))))))))))))
 
 module _ {M : Type 1} (𝓤 : URA M) (H : Heap 𝓤) (A : Atoms 𝓤) (W : Given 𝓤 H A) (mem : Memory → SProp 𝓤) (run : Routine → Fun 𝓤) where
   walks : (C : Calls 𝓤 H) (Λ : Loops 𝓤 H) → FmC 𝓤 H (W .laws) C → Triple 𝓤 (C key-method) (Served 𝓤 H A mem run) → Triple 𝓤 (C key-number) (Numbered 𝓤 H A mem run) → Walks 𝓤 H A f.ended stayed (WpFn 𝓤 H C Λ code.function) (f.clauses 𝓤 H A mem run)
