@@ -8,7 +8,7 @@ use lib.ListN.{take, replicate}
 use Rattle.laws.specs.Lists.{tabulate}
 use Rattle.laws.specs.Blocks.{blockCount}
 use Rattle.ctr_drbg.specs.Counter.{octetsToInteger, integerToOctets, increment}
-use Rattle.ctr_drbg.specs.Algorithms.{xored, padded, divided, workingOf, stateOf, generateBlocks, update, zeroWorking, generate}
+use Rattle.ctr_drbg.specs.Algorithms.{xored, padded, divided, workingOf, generateBlocks, update, zeroWorking, generate}
 use Rattle.ctr_drbg.specs.Refusals.{instantiateNumber, reseedNumber, generateNumber}
 use Rattle.ctr_drbg.specs.Operations.{number, fresh, instantiated, reseeded, generated, generateBuffer}
 use Rattle.ctr_drbg.specs.Runs.{instantiation, reseeding, request, numbersFrom}
@@ -27,7 +27,9 @@ afterCarry x k = replicate (15 - k) 0 ++ (x ∷ replicate k 0)
 -- V steps at its last byte, carries over FF, 2^32, 2^64, 2^96 and up to its first byte, and goes from 2^128 - 1 to 0
 abbrev pub StepsRow : Type 0
 StepsRow =
-    map increment (beforeCarry 0 0 ∷ beforeCarry 0xfe 0 ∷ beforeCarry 0 1 ∷ beforeCarry 7 4 ∷ beforeCarry 7 8 ∷ beforeCarry 7 12 ∷ beforeCarry 0xfe 15 ∷ beforeCarry 0xff 15 ∷ [])
+    map increment
+    (beforeCarry 0 0 ∷ beforeCarry 0xfe 0 ∷ beforeCarry 0 1 ∷ beforeCarry 7 4 ∷ beforeCarry 7 8 ∷ beforeCarry 7 12 ∷ beforeCarry 0xfe 15
+    ∷ beforeCarry 0xff 15 ∷ [])
     ≡ afterCarry 1 0 ∷ afterCarry 0xff 0 ∷ afterCarry 1 1 ∷ afterCarry 8 4 ∷ afterCarry 8 8 ∷ afterCarry 8 12 ∷ afterCarry 0xff 15 ∷ afterCarry 0 15 ∷ []
 
 -- the most significant byte comes first
@@ -154,8 +156,8 @@ abbrev pub RunRow : Type 0
 RunRow =
     numbersFrom fresh
     (request (7 ∷ []) [] ∷ reseeding (replicate 48 3) [] ∷ instantiation (replicate 47 3) [] ∷ request (7 ∷ []) [] ∷ instantiation (replicate 48 3) (5 ∷ [])
-    ∷ instantiation (replicate 48 3) (replicate 49 5) ∷ request (7 ∷ []) (replicate 49 5) ∷ request (7 ∷ []) (5 ∷ []) ∷ reseeding (replicate 48 3) (replicate 49 5)
-    ∷ reseeding (replicate 49 3) [] ∷ reseeding (replicate 48 3) (5 ∷ []) ∷ request [] [] ∷ [])
+    ∷ instantiation (replicate 48 3) (replicate 49 5) ∷ request (7 ∷ []) (replicate 49 5) ∷ request (7 ∷ []) (5 ∷ [])
+    ∷ reseeding (replicate 48 3) (replicate 49 5) ∷ reseeding (replicate 49 3) [] ∷ reseeding (replicate 48 3) (5 ∷ []) ∷ request [] [] ∷ [])
     ≡ 42 ∷ 42 ∷ 40 ∷ 42 ∷ 0 ∷ 41 ∷ 41 ∷ 0 ∷ 41 ∷ 40 ∷ 0 ∷ 0 ∷ []
 
 -- the rows together
