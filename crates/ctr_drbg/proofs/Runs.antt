@@ -16,8 +16,8 @@ use Rattle.laws.proofs.Cases.{by-test}
 use Rattle.laws.proofs.Refusals.{passed}
 use Rattle.ctr_drbg.specs.Algorithms.{seedLength, stateOf, instantiate, reseed, generate}
 use Rattle.ctr_drbg.specs.Refusals.{maxRequest, reseedInterval, neverSeeded, reseedRequired, instantiateNumber, reseedNumber, generateNumber}
-use Rattle.ctr_drbg.specs.Operations.{fresh, instantiateAnswer, instantiated, reseedAnswer, reseeded, generateAnswer, generated}
-use Rattle.ctr_drbg.specs.Runs.{Call, instantiation, reseeding, request, callNumber, callNext, numbersFrom, Seedings, logNumber, logEntry, logged, loggedNumbers, noSeeding, RunNumbers, requests, Sized, servedBefore, AtMost, SoMany}
+use Rattle.ctr_drbg.specs.Operations.{fresh, instantiateAnswer, instantiated, reseedAnswer, reseeded, generateAnswer, generated, generateBuffer}
+use Rattle.ctr_drbg.specs.Runs.{Call, instantiation, reseeding, request, callNumber, callNext, numbersFrom, Seedings, logNumber, logEntry, logged, loggedNumbers, noSeeding, RunNumbers, Unchanged, requests, Sized, servedBefore, AtMost, SoMany}
 use Rattle.ctr_drbg.specs.declared.CtrDrbg.{CtrDrbg}
 use Rattle.ctr_drbg.proofs.Accepted.{generate-fits}
 
@@ -111,6 +111,14 @@ fresh-told = refl
 
 pub run-numbers : RunNumbers
 run-numbers calls = numbers-told fresh noSeeding fresh-told calls
+
+pub refused-unchanged : (s : CtrDrbg) → Unchanged s
+unfolding generateBuffer
+refused-unchanged s =
+    record {
+      state = λ c h. refused-same s c (ne-eqb (callNumber s c) 0 h);
+      buffer = λ out additional h. rw (ne-eqb (generateAnswer s out additional) 0 h);
+    }
 
 -- ---- requests between two seedings
 

@@ -1,6 +1,7 @@
 -- Lists of calls, and what the number of each is by 02's words: worked out from the calls alone, with no state.
 -- Assumes nothing.
 use mathlib.Core.Path.{_≡_}
+use mathlib.Core.Logic.{_≢_}
 use mathlib.Core.Bool.{Bool, true, false, not, cond}
 use mathlib.Core.List.{List, [], _∷_, map}
 use Prim.Native.Nat.{ℕ, _+_, _^_, _≤_}
@@ -8,7 +9,7 @@ use lib.Dec.{eqb, ltb, leb}
 use lib.ListN.{length, replicate}
 use Rattle.laws.specs.Refusals.{refuse}
 use Rattle.ctr_drbg.specs.Algorithms.{instantiate, reseed}
-use Rattle.ctr_drbg.specs.Operations.{fresh, instantiateAnswer, instantiated, reseedAnswer, reseeded, generateAnswer, generated}
+use Rattle.ctr_drbg.specs.Operations.{fresh, instantiateAnswer, instantiated, reseedAnswer, reseeded, generateAnswer, generated, generateBuffer}
 use Rattle.ctr_drbg.specs.declared.CtrDrbg.{CtrDrbg}
 
 -- a call with its inputs, a request also with its lent buffer
@@ -71,6 +72,11 @@ noSeeding = record { seeded = false; made = 0 }
 -- from a fresh start every call's number is the log's
 abbrev pub RunNumbers : Type 0
 RunNumbers = (calls : List Call) → numbersFrom fresh calls ≡ loggedNumbers noSeeding calls
+
+-- a refused call changes nothing: neither state nor buffer
+pub record Unchanged (s : CtrDrbg) : Type 0 where
+  pub state : (c : Call) → callNumber s c ≢ 0 → callNext s c ≡ s
+  pub buffer : (out additional : List ℕ) → generateAnswer s out additional ≢ 0 → generateBuffer s out additional ≡ out
 
 -- requests alone, each with its buffer and its additional input
 abbrev pub requests : List (List ℕ × List ℕ) → List Call
