@@ -5,7 +5,7 @@ use mathlib.Core.List.{List, [], _∷_, _++_, append-nil, append-assoc}
 use Prim.Native.Nat.{ℕ, zero, suc, _+_, _*_, _%_, _^_}
 use native.Mathlib.Nat.{add-zero, add-suc, mod-mod, mod-add-mod}
 use native.Mathlib.Omega.{arith}
-use lib.ListN.{length, replicate, length-append}
+use lib.ListN.{length, length-append}
 use Rattle.laws.specs.Lists.{tabulate, joined}
 use Rattle.laws.specs.Blocks.{blockCount}
 use Rattle.laws.proofs.Lists.{joined-append, joined-one}
@@ -94,8 +94,8 @@ unfolding reseed stateOf working update divided closedReseed closedBlocks
 reseed-closed s entropy additional = rw (blocks-closed 3 (workingOf (s .key) (s .v)))
 
 pub instantiate-closed : (entropy personalization : List ℕ) → instantiate entropy personalization ≡ closedReseed fresh entropy personalization
-unfolding instantiate zeroWorking stateOf update divided closedReseed closedBlocks fresh
-instantiate-closed entropy personalization = rw (blocks-closed 3 (workingOf (replicate 32 0) (replicate 16 0)))
+unfolding instantiate stateOf update divided closedReseed closedBlocks fresh
+instantiate-closed entropy personalization = rw (blocks-closed 3 zeroWorking)
 
 pub generate-closed : (s : CtrDrbg) (n : ℕ) (additional : List ℕ) → generate s n additional ≡ closedGenerate s n additional
 unfolding generate closedGenerate closedFrom closedBlocks
