@@ -480,8 +480,9 @@ static inline bool fortuna_health_passed(fortuna_health_answer a)
      bytes as often as your network asks.
    - Entropy input must have full entropy: 48 bytes of which nobody can tell anything, not one bit. There is no
      derivation function that makes such bytes of many weaker ones, so a sensor's readings won't do, and no call can
-     tell. They may be drawn from a seeded station, by fortuna_request; examples/c/station.c does so. They are then as
-     good as the noise that went into the station. Never give the same 48 bytes twice.
+     tell. examples/c/station.c draws them from a seeded station by fortuna_request. Those are no better than the noise
+     that went into the station, nor than its key: 48 bytes made under one key of 32 bytes hold at most 256 bits. Ask
+     your network whether it takes them. Never give the same 48 bytes twice.
    - The personalization string and the additional input have up to 48 bytes each and need not be secret. A serial
      number as the personalization string makes two stations differ that would else start alike. Zeros at the end fill
      up what is shorter.

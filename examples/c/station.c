@@ -501,8 +501,8 @@ enum { ENTROPY = 48 };
 /* Stands for an input that is not given: no bytes, but not a null pointer. */
 static const uint8_t none[1];
 
-/* Entropy input must have full entropy. Readings have not, but Fortuna makes bytes of them that nobody can tell. Each
-   seeding gets new ones. */
+/* Entropy input must have full entropy. Readings have not. Fortuna makes bytes of them that nobody can tell who does
+   not know its key; they hold at most its 256 bits. Each seeding gets new ones. */
 static void draw_entropy(fortuna_state *f, uint32_t clock, uint8_t entropy[ENTROPY])
 {
     must("entropy input", fortuna_request(f, clock, entropy, ENTROPY).number);

@@ -13,8 +13,8 @@ vectors of NIST.
     ctr_drbg_runs.py --self-test           wrong versions (wrong_ctr_drbg.py, beside this), each of which a stored
                                            script must tell from the right one
 
-Nothing in the stored scripts comes from chance. In the vectors V never carries past its last byte, so that a counter
-of 16 bits gives them all. The scripts have states with V before each carry, in the output's blocks and in the
+Nothing in the stored scripts comes from chance. In the vectors V never carries past its last two bytes, so that a
+counter of 16 bits gives them all. The scripts have states with V before each carry, in the output's blocks and in the
 updates'."""
 import argparse
 import random

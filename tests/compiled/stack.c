@@ -361,8 +361,8 @@ static size_t copies_of(const uint8_t *secret, size_t size)
     return found;
 }
 
-/* What a call works on: what of it changes exactly if the call is accepted, and where its key stands. Only CTR_DRBG has a
-   V that is secret. */
+/* What a call works on: what of it changes exactly if the call is accepted, and where its key stands. Only CTR_DRBG has
+   a V that is secret. */
 typedef struct {
     const void *at;
     size_t size, key, v;

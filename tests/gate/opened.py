@@ -15,7 +15,7 @@ from pathlib import Path
 
 ROOT = Path(__file__).resolve().parents[2]
 STORED = ROOT / "tests/gate/opened.txt"
-TABLES = {"Boundaries.antt", "Computing.antt", "Examples.antt", "PublishedVector.antt", "QuotaRows.antt", "Readings.antt"}
+TABLES = {f"{name}.antt" for name in ("Boundaries", "Computing", "Examples", "PublishedVector", "QuotaRows", "Readings")}
 IMPORT = re.compile(r"^use Rattle·(\w+)\.(?:specs|proofs)\.[\w.-]+?(?:\.\{([^}]*)\}| as (\S+))$", re.M)
 # an `unfolding` goes on in lines that are indented further
 OPENED = re.compile(r"^( *)unfolding (.*(?:\n\1 +.*)*)$|\bunfold ((?:\S+ )+?)in\b", re.M)

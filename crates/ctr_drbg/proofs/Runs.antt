@@ -181,7 +181,8 @@ at-most s c e (request out additional ∷ cs) =
     (λ n. let fits = request-fits s out additional n in left-one c (omega (arith, e, fits .0)) (omega (arith, e, fits .1)))
     (λ n. rw (refused-same s (request out additional) n) (at-most s c e cs))
 
-request-accepted : (s : CtrDrbg) (c : ℕ) → s .«reseed_counter» ≡ c → 0 < c → c ≤ 2 ^ 48 → (out additional : List ℕ) → length out ≤ 65536 → length additional ≤ 48
+request-accepted : (s : CtrDrbg) (c : ℕ) → s .«reseed_counter» ≡ c → 0 < c → c ≤ 2 ^ 48 → (out additional : List ℕ)
+    → length out ≤ 65536 → length additional ≤ 48
     → generateAnswer s out additional ≡ 0
 unfolding generateAnswer generateNumber seedLength maxRequest neverSeeded reseedRequired reseedInterval
 request-accepted s c e some few out additional short given =

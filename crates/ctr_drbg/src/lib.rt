@@ -113,7 +113,8 @@ fn prepared(t: &[u32; 1024], key: [u8; 32], v: [u8; 16], m: usize, provided: [u8
 }
 
 // Steps 2 to 6 of a request, with m bytes of additional input: the buffer is filled, and Key and V are updated. A seeding is the same
-// with none and an empty buffer: so the cipher's tables, 4 KB of code, are built at this one place, once for each call.
+// with none and an empty buffer: so the cipher's tables, 4 KB of code and 4 KB of constants, are built at this one place, once for
+// each call.
 fn advance(key: [u8; 32], v: [u8; 16], m: usize, provided: [u8; 48], out: &mut [u8]) -> Working
     ensures { λ r. ⌜ (r ≡ update provided (generateBlocks (preparedBy m provided (workingOf key v)) (blockCount (length (now (out .entry)))) .next))
         × (now (out .exit) ≡ take (length (now (out .entry)))

@@ -1,4 +1,4 @@
-// Helpers on bytes that several crates need.
+// Helpers on bytes and blocks that several crates need.
 ghost use mathlib.Core.Path.{_≡_};
 ghost use mathlib.Core.Logic.{_⊎_};
 ghost use Prim.Native.Nat.{_≤_, min};

@@ -560,9 +560,10 @@ impl Health {
 /// requires it. It has nothing to do with a `Fortuna`, but may get its entropy input from one. It is not `Clone`: two
 /// copies would give the same bytes.
 ///
-/// Entropy input has 48 bytes (else `EntropyLength`) and must have full entropy, which no call can check: draw it by
-/// `Fortuna::request` from a seeded station, anew for each seeding. A personalization string or additional input has up
-/// to 48 bytes (else `InputTooLong`) and need not be secret. `&[]` is none; zeros are an input.
+/// Entropy input has 48 bytes (else `EntropyLength`) and must have full entropy, which no call can check. Bytes of
+/// `Fortuna::request` on a seeded station, anew for each seeding, hold at most the 256 bits of its key: ask your network
+/// whether it takes them. A personalization string or additional input has up to 48 bytes (else `InputTooLong`) and need
+/// not be secret. `&[]` is none; zeros are an input.
 pub struct CtrDrbg {
     state: CtrDrbgState,
 }

@@ -409,8 +409,8 @@ fn flood(page: &mut [u8; 64]) -> Result<(), Refusal> {
     Ok(())
 }
 
-/// Entropy input must have full entropy. Readings have not, but Fortuna makes bytes of them that nobody can tell. Each
-/// seeding gets new ones.
+/// Entropy input must have full entropy. Readings have not. Fortuna makes bytes of them that nobody can tell who does not
+/// know its key; they hold at most its 256 bits. Each seeding gets new ones.
 fn draw_entropy(f: &mut Fortuna, clock: u32) -> Result<[u8; 48], Refusal> {
     let mut entropy = [0; 48];
     f.request(clock, &mut entropy)?;

@@ -1,6 +1,6 @@
 /* Every call that works on a key, with the key's bytes marked as unknown to memcheck: it reports each jump, and each
-   address, that they decide. For CTR_DRBG Key, V and the bytes of every input are unknown; lengths and the reseed counter
-   are known. As 'calls blank' and 'calls other' it makes one seed update, by a blank page or by one whose last byte is
+   address, that they decide. For CTR_DRBG Key, V and the bytes of every input are unknown; lengths and the reseed
+   counter are known. As 'calls blank' and 'calls other' it makes one seed update, by a blank page or by one whose last byte is
    another, with the seed's bytes unknown in place of the key's; as 'calls metered-blank' and 'calls metered-other' the
    same with a list. A list of quotas is no secret, and known throughout: whether it is cleared must not go by the
    key. */
