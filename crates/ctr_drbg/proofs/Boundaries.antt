@@ -7,13 +7,13 @@ use Rattle.ctr_drbg.specs.Counter.{octetsToInteger, integerToOctets, inc
 use Rattle.ctr_drbg.specs.Algorithms.{seedLength, xored, padded, working, stateOf, generateBlocks, divided, zeroWorking, instantiate, reseed, preparedBy, generate}
 use Rattle.ctr_drbg.specs.Refusals.{maxRequest, reseedInterval, neverSeeded, reseedRequired, instantiateNumber, reseedNumber, generateNumber}
 use Rattle.ctr_drbg.specs.Operations.{number, fresh, instantiateAnswer, instantiated, reseedAnswer, reseeded, generateAnswer, generated, generateBuffer}
-use Rattle.ctr_drbg.specs.Runs.{callNumber, callNext, numbersFrom}
+use Rattle.ctr_drbg.specs.Runs.{callNumber, callNext, numbersFrom, servedBefore}
 use Rattle.ctr_drbg.specs.Boundaries.{Boundaries}
 
 pub boundaries : Boundaries
 unfolding tabulate octetsToInteger integerToOctets increment seedLength xored padded divided maxRequest reseedInterval neverSeeded reseedRequired
     instantiateNumber reseedNumber generateNumber number stateOf zeroWorking fresh blockCount working instantiate reseed preparedBy generateBlocks generate
-    instantiateAnswer instantiated reseedAnswer reseeded generateAnswer generated generateBuffer callNumber callNext numbersFrom
+    instantiateAnswer instantiated reseedAnswer reseeded generateAnswer generated generateBuffer callNumber callNext numbersFrom servedBefore
 boundaries =
     record {
       steps = refl;
@@ -37,4 +37,5 @@ boundaries =
       refused = λ s w. refl;
       kept = λ s w. refl;
       run = refl;
+      servedRequests = λ w. refl;
     }

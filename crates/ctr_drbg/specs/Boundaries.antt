@@ -11,7 +11,7 @@ use Rattle.ctr_drbg.specs.Counter.{octetsToInteger, integerToOctets, inc
 use Rattle.ctr_drbg.specs.Algorithms.{xored, padded, divided, workingOf, generateBlocks, update, zeroWorking, generate}
 use Rattle.ctr_drbg.specs.Refusals.{instantiateNumber, reseedNumber, generateNumber}
 use Rattle.ctr_drbg.specs.Operations.{number, fresh, instantiated, reseeded, generated, generateBuffer}
-use Rattle.ctr_drbg.specs.Runs.{instantiation, reseeding, request, numbersFrom}
+use Rattle.ctr_drbg.specs.Runs.{Call, instantiation, reseeding, request, numbersFrom, servedBefore}
 use Rattle.ctr_drbg.specs.declared.CtrDrbg.{CtrDrbg}
 use Rattle.ctr_drbg.specs.declared.update.Working.{Working}
 use Rattle.ctr_drbg.specs.declared.answer.Answer.the-variants.{Done, RequestTooLong, EntropyLength, InputTooLong, SeedingNeeded}
@@ -160,6 +160,17 @@ RunRow =
     ∷ reseeding (replicate 48 3) (replicate 49 5) ∷ reseeding (replicate 49 3) [] ∷ reseeding (replicate 48 3) (5 ∷ []) ∷ request [] [] ∷ [])
     ≡ 42 ∷ 42 ∷ 40 ∷ 42 ∷ 0 ∷ 41 ∷ 41 ∷ 0 ∷ 41 ∷ 40 ∷ 0 ∷ 0 ∷ []
 
+-- requests served before the next seeding: refused calls are passed over, and what is behind an accepted seeding does not count
+abbrev pub ServedRow : Working → Type 0
+ServedRow w =
+    let served : Call = request (7 ∷ []) [] in
+    map (servedBefore (counted w 7))
+    ((served ∷ instantiation (replicate 47 3) [] ∷ request (7 ∷ []) (replicate 49 5) ∷ reseeding (replicate 47 3) [] ∷ served
+    ∷ reseeding (replicate 48 3) [] ∷ served ∷ [])
+    ∷ (served ∷ served ∷ served ∷ instantiation (replicate 48 3) [] ∷ served ∷ []) ∷ [])
+    ++ (servedBefore (counted w (2 ^ 48)) (served ∷ served ∷ []) ∷ servedBefore (counted w 0) (served ∷ []) ∷ [])
+    ≡ 2 ∷ 3 ∷ 1 ∷ 0 ∷ []
+
 -- the rows together
 pub record Boundaries : Type 0 where
   pub steps : StepsRow
@@ -183,3 +194,4 @@ pub record Boundaries : Type 0 where
   pub refused : (s : CtrDrbg) (w : Working) → RefusedRow s w
   pub kept : (s : CtrDrbg) (w : Working) → KeptRow s w
   pub run : RunRow
+  pub servedRequests : (w : Working) → ServedRow w
