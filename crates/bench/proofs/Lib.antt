@@ -2,6 +2,8 @@ pub mod Model
 pub mod Hexadecimal
 pub mod Frames
 pub mod Texts
+pub mod EventBytes
+pub mod EventTexts
 pub mod Buffers
 pub mod Lines
 pub mod Printing

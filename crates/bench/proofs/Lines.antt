@@ -3,20 +3,45 @@
 use mathlib.Core.Path.{_≡_, refl, sym, ap, _∙_}
 use mathlib.Core.Bool.{Bool, true, false, cond, _||_, true≢false}
 use mathlib.Core.List.{List, [], _∷_, _++_, append-nil}
-use Prim.Native.Nat.{ℕ, suc, _+_, _<_}
+use Prim.Native.Nat.{ℕ, suc, _+_, _≤_, _<_}
 use native.Mathlib.Nat.{add-zero, suc-add}
 use native.Mathlib.Numerals.{add-one}
 use native.Mathlib.Omega.{arith}
-use lib.Dec.{eqb}
-use lib.ListN.{length, getD, drop}
-use lib.Seq.{drop-cons, drop-length, append-snoc}
-use borrow.Author.Tests.{ne-eqb}
+use lib.Dec.{eqb, ltb}
+use lib.ListN.{length, getD, take, drop, length-append}
+use lib.Seq.{drop-cons, drop-length, append-snoc, take-at, take-all}
+use borrow.Author.Tests.{ne-eqb, eqb-true, lt-ltb, le-ltb}
+use Rattle.laws.proofs.Cases.{split, by-test, neither}
 use Rattle.bench.specs.Lines.{lineFeed}
 use Rattle.bench.specs.Input.{lastLine, linesAfter, lines, firstLine, hasLineFeed, usedBy}
 use Rattle.bench.specs.Statements.{LinesLaw}
 
+-- of characters that are no line feed neither the first nor any after it is one
+pub feedless-more : (c : ℕ) (r : List ℕ) → hasLineFeed (c ∷ r) ≡ false → (eqb c lineFeed ≡ false) × (hasLineFeed r ≡ false)
+unfolding hasLineFeed
+feedless-more c r e = neither (eqb c lineFeed) (hasLineFeed r) e
+
+-- the first line has no line feed
+pub first-feedless : (r : List ℕ) → hasLineFeed (firstLine r) ≡ false
+unfolding firstLine hasLineFeed
+first-feedless [] = refl
+first-feedless (c ∷ r) = split (λ (l : List ℕ). hasLineFeed l ≡ false) (eqb c lineFeed) (λ t. refl) (λ t. rw t (first-feedless r))
+
+-- where a line feed ends it, what is not used comes after that
+pub first-ended : (r : List ℕ) → hasLineFeed r ≡ true → r ≡ firstLine r ++ (lineFeed ∷ drop (usedBy r) r)
+unfolding firstLine hasLineFeed usedBy
+first-ended [] e = absurd (true≢false (sym e))
+first-ended (c ∷ r) e = go (eqb c lineFeed) (eqb-true c lineFeed) e (first-ended r)
+  where
+    go : (t : Bool) → (t ≡ true → c ≡ lineFeed) → (t || hasLineFeed r) ≡ true
+        → (hasLineFeed r ≡ true → r ≡ firstLine r ++ (lineFeed ∷ drop (length (firstLine r) + cond (hasLineFeed r) 1 0) r))
+        → c ∷ r
+        ≡ cond t [] (c ∷ firstLine r) ++ (lineFeed ∷ drop (length (cond t [] (c ∷ firstLine r)) + cond (t || hasLineFeed r) 1 0) (c ∷ r))
+    go true q e f = ap (λ (x : ℕ). x ∷ r) (q refl)
+    go false q e f = ap (λ (l : List ℕ). c ∷ l) (f e ∙ rw suc-add)
+
 -- all of it, where there is no line feed
-first-all : (r : List ℕ) → hasLineFeed r ≡ false → firstLine r ≡ r
+pub first-all : (r : List ℕ) → hasLineFeed r ≡ false → firstLine r ≡ r
 unfolding firstLine hasLineFeed
 first-all [] e = refl
 first-all (c ∷ r) e = go (eqb c lineFeed) e (first-all r)
@@ -45,6 +70,38 @@ lines-after sofar (c ∷ r) rest = go (eqb c lineFeed) (lines-after (sofar ++ (c
 pub used-all : (r : List ℕ) → hasLineFeed r ≡ false → usedBy r ≡ length r
 unfolding usedBy
 used-all r e = rw (e, first-all r e) (add-zero (length r))
+
+-- the first line and its line feed are used, where it has one
+pub used-ended : (r : List ℕ) → hasLineFeed r ≡ true → usedBy r ≡ length (firstLine r) + 1
+unfolding usedBy
+used-ended r e = rw e
+
+-- by whether it has one: the first line is its front, and all of it only where there is none
+module _ (r : List ℕ) where
+  longer : hasLineFeed r ≡ true → length (firstLine r) < length r
+  longer e =
+      let size : length r ≡ length (firstLine r) + suc (length (drop (usedBy r) r)) = ap length (first-ended r e) ∙ length-append (firstLine r) _ in
+      omega (arith, size)
+
+  pub first-fits : length (firstLine r) ≤ length r
+  first-fits =
+      by-test (hasLineFeed r) (length (firstLine r) ≤ length r) (λ e. omega (arith, longer e)) (λ e. omega (arith, ap length (first-all r e)))
+
+  pub first-front : take (length (firstLine r)) r ≡ firstLine r
+  first-front =
+      by-test (hasLineFeed r) (take (length (firstLine r)) r ≡ firstLine r)
+      (λ e. ap (take (length (firstLine r))) (first-ended r e) ∙ take-at (firstLine r) _ (length (firstLine r)) refl)
+      (λ e. take-all (length (firstLine r)) r (omega (arith, ap length (first-all r e))) ∙ sym (first-all r e))
+
+  pub feed-test : ltb (length (firstLine r)) (length r) ≡ hasLineFeed r
+  feed-test =
+      by-test (hasLineFeed r) (ltb (length (firstLine r)) (length r) ≡ hasLineFeed r)
+      (λ e. lt-ltb (length (firstLine r)) (length r) (longer e) ∙ sym e)
+      (λ e. le-ltb (length (firstLine r)) (length r) (omega (arith, ap length (first-all r e))) ∙ sym e)
+
+  pub used-fits : usedBy r ≤ length r
+  used-fits =
+      by-test (hasLineFeed r) (usedBy r ≤ length r) (λ e. omega (arith, used-ended r e, longer e)) (λ e. omega (arith, used-all r e))
 
 -- of what is left something is used
 pub used-more : (r : List ℕ) → 0 < length r → 0 < usedBy r

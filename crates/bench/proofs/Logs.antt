@@ -16,7 +16,7 @@ use Rattle.bench.specs.Input.{linesAfter, lines, transcript, usedBy, lin
 use Rattle.bench.specs.declared.input.StepOutcome.{StepOutcome}
 use Rattle.bench.proofs.Buffers.{length-appended, held-append, appended-append, length-overwrite, take-overwrite}
 use Rattle.bench.proofs.Sessions.{remaining, length-step, step-remaining}
-use Rattle.bench.proofs.Steps.{used-fits}
+use Rattle.bench.proofs.Lines.{used-fits}
 
 -- `at` characters of the input are used and `stored` of the output are in place: what the session still prints completes it
 pub record Logged (input out₀ out : List ℕ) (x : Session) (at stored : ℕ) : Type 0 where

@@ -38,6 +38,14 @@ printed-run (text ∷ texts) place s = go (lineCall text) (printed-run texts)
     go none rest = ap (λ (l : List ℕ). numberLine noFrame ++ l) (rest place s)
     go (some c) rest = ap (λ (l : List ℕ). outcomeLine c (step s c) ++ l) (rest (suc place) (step s c .effect .next))
 
+-- an input's answers go by the calls of its lines alone
+pub same-calls : (input other : List ℕ) → map lineCall (lines input) ≡ map lineCall (lines other) → transcript input ≡ transcript other
+unfolding transcript
+same-calls input other e =
+    printed-run (lines input) 0 fresh
+    ∙ ap (λ (calls : List (Option Call)). answers calls (runFrom (λ place. step) 0 fresh (made calls))) e
+    ∙ sym (printed-run (lines other) 0 fresh)
+
 pub model-law : ModelLaw
 unfolding transcript modelTranscript logCalls lineCalls run
 model-law input =

@@ -7,6 +7,7 @@ use Prim.Native.Nat.{ℕ, suc, _+_, _-_, _<_, _≤_, zero-le}
 use native.Mathlib.Omega.{arith}
 use lib.Dec.{eqb}
 use lib.ListN.{length, take, drop, length-take, length-drop}
+use borrow.Author.Tests.{lt-ltb, le-ltb}
 use Rattle.laws.specs.Lists.{overwrite}
 use Rattle.laws.proofs.Copy.{part-end}
 use Rattle.pools.specs.declared.Fortuna.{Fortuna}
@@ -16,60 +17,17 @@ use Rattle.bench.specs.Input.{lastLine, printedFrom, firstLine, hasLineF
 use Rattle.bench.specs.declared.line.LineOutcome.{LineOutcome}
 use Rattle.bench.specs.declared.input.StepOutcome.{StepOutcome}
 use Rattle.bench.proofs.Buffers.{overwrite-nothing}
-use Rattle.bench.proofs.Lines.{used-all, used-more}
+use Rattle.bench.proofs.Lines.{first-fits, first-front, feed-test, used-all, used-ended, used-fits, used-more}
 
 -- ---- the first line's length says whether a line feed ended it
 
-first-front : (chunk : List ℕ) → take (length (firstLine chunk)) chunk ≡ firstLine chunk
-unfolding firstLine
-first-front [] = refl
-first-front (c ∷ chunk) = go (eqb c lineFeed) (first-front chunk)
-  where
-    go : (t : Bool) → take (length (firstLine chunk)) chunk ≡ firstLine chunk → take (length (cond t [] (c ∷ firstLine chunk))) (c ∷ chunk) ≡ cond t [] (c ∷ firstLine chunk)
-    go true e = refl
-    go false e = ap (λ (l : List ℕ). c ∷ l) e
-
--- shorter where there is one, all of the chunk where there is none
-first-length : (chunk : List ℕ) → cond (hasLineFeed chunk) (length (firstLine chunk) < length chunk) (length (firstLine chunk) ≡ length chunk)
-unfolding firstLine hasLineFeed
-first-length [] = refl
-first-length (c ∷ chunk) = go (eqb c lineFeed) (hasLineFeed chunk) (first-length chunk)
-  where
-    go : (t u : Bool) → cond u (length (firstLine chunk) < length chunk) (length (firstLine chunk) ≡ length chunk)
-        → cond (t || u) (length (cond t [] (c ∷ firstLine chunk)) < length (c ∷ chunk)) (length (cond t [] (c ∷ firstLine chunk)) ≡ length (c ∷ chunk))
-    go true u h = omega arith
-    go false true h = omega arith
-    go false false h = ap suc h
-
 feed-none : (chunk : List ℕ) → length (firstLine chunk) ≡ length chunk → hasLineFeed chunk ≡ false
-feed-none chunk e = go (hasLineFeed chunk) (first-length chunk)
-  where
-    go : (t : Bool) → cond t (length (firstLine chunk) < length chunk) (length (firstLine chunk) ≡ length chunk) → t ≡ false
-    go true h = absurd (omega arith)
-    go false h = refl
+feed-none chunk e = sym (feed-test chunk) ∙ le-ltb (length (firstLine chunk)) (length chunk) (omega arith)
 
 pub feed-some : (chunk : List ℕ) → (length (firstLine chunk) ≡ length chunk → ⊥) → (hasLineFeed chunk ≡ true) × (length (firstLine chunk) < length chunk)
-feed-some chunk n = go (hasLineFeed chunk) (first-length chunk)
-  where
-    go : (t : Bool) → cond t (length (firstLine chunk) < length chunk) (length (firstLine chunk) ≡ length chunk) → (t ≡ true) × (length (firstLine chunk) < length chunk)
-    go true h = (refl, h)
-    go false h = absurd (n h)
-
-pub first-fits : (chunk : List ℕ) → length (firstLine chunk) ≤ length chunk
-first-fits chunk = go (hasLineFeed chunk) (first-length chunk)
-  where
-    go : (t : Bool) → cond t (length (firstLine chunk) < length chunk) (length (firstLine chunk) ≡ length chunk) → length (firstLine chunk) ≤ length chunk
-    go true h = omega arith
-    go false h = omega arith
-
--- no more is used than there is
-pub used-fits : (chunk : List ℕ) → usedBy chunk ≤ length chunk
-unfolding usedBy
-used-fits chunk = go (hasLineFeed chunk) (first-length chunk)
-  where
-    go : (t : Bool) → cond t (length (firstLine chunk) < length chunk) (length (firstLine chunk) ≡ length chunk) → length (firstLine chunk) + cond t 1 0 ≤ length chunk
-    go true h = omega arith
-    go false h = omega arith
+feed-some chunk n =
+    let less : length (firstLine chunk) < length chunk = omega (arith, n, first-fits chunk) in
+    (sym (feed-test chunk) ∙ lt-ltb (length (firstLine chunk)) (length chunk) less, less)
 
 -- ---- a step, by whether there is a line feed
 
@@ -89,10 +47,6 @@ module _ (x : Session) (chunk : List ℕ) where
   printed-some : hasLineFeed chunk ≡ true → stepPrinted x chunk ≡ lineOf (extended x (firstLine chunk) .state) (heldLine (extended x (firstLine chunk))) .printed
   unfolding stepPrinted
   printed-some e = rw e
-
-used-ended : (chunk : List ℕ) → hasLineFeed chunk ≡ true → usedBy chunk ≡ length (firstLine chunk) + 1
-unfolding usedBy
-used-ended chunk e = rw e
 
 -- ---- a step of the code: n characters stand before the line feed, and they were added to the line so far
 

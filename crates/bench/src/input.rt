@@ -21,7 +21,7 @@ pub struct StepOutcome {
 }
 
 // How many characters stand before the first line feed, or in all.
-fn line_length(chunk: &[u8]) -> usize
+pub fn line_length(chunk: &[u8]) -> usize
     ensures { λ r. ⌜ r ≡ length (firstLine (now (chunk .entry))) ⌝ }
 {
     let mut i = 0;

@@ -5,7 +5,7 @@ ghost use Prim.Native.Nat.{_+_, _*_, _≤_};
 ghost use lib.ListN.{length};
 ghost use Rattle.pools.specs.Calls.{event, request, update, write};
 ghost use Rattle.pools.specs.Refusals.{seedSize};
-ghost use Rattle.bench.specs.Frames.{maxLine, frameOf};
+ghost use Rattle.bench.specs.Frames.{maxLine, frameOf, frameOfText};
 ghost use Rattle.bench.specs.Buffers.{zeros};
 ghost use Rattle.bench.specs.Lines.{callOf, executed, lineOf, Prints};
 use crate::buffer::zero_buffer;
@@ -46,6 +46,22 @@ fn max_line(text: &[u8]) -> usize
         return MAX_OTHER_LINE;
     }
     MAX_WIDE_LINE
+}
+
+// The frame that a line of text is, without its line feed.
+pub fn frame_of(text: &[u8]) -> Frame
+    ensures { λ r. ⌜ r ≡ frameOfText (now (text .entry)) ⌝ }
+{
+    if max_line(text) < text.len() {
+        return Frame::Invalid;
+    }
+    if !is_hex(text) {
+        return Frame::Invalid;
+    }
+    let mut bytes = [0u8; MAX_WIDE_LINE / 2];
+    decode(text, &mut bytes);
+    let n = text.len() / 2;
+    parse(&bytes[..n])
 }
 
 // No frame: 16, and no call is made.

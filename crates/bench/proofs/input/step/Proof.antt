@@ -6,7 +6,8 @@ use native.Mathlib.Omega.{arith}
 use lib.ListN.{length}
 use lib.Seq.{length-take-le}
 use borrow.Author.Needs.{needs}
-use Rattle.bench.proofs.Steps.{first-fits, feed-some, steps-on, steps-ended}
+use Rattle.bench.proofs.Lines.{first-fits}
+use Rattle.bench.proofs.Steps.{feed-some, steps-on, steps-ended}
 use Rattle.bench.proofs.input.step.Statement.{statement}
 use Rattle.bench.proofs.input.step.Tie as tie
 
