@@ -1,0 +1,12 @@
+pub mod Numbers
+pub mod Lines
+pub mod LogLines
+pub mod Conversions
+pub mod FirstRefused
+pub mod WholeLogs
+pub mod Rooms
+pub mod Pieces
+pub mod Stores
+pub mod Writes
+pub mod Walks
+pub mod Examples

@@ -1,0 +1,211 @@
+-- A log that is cut after its lines and converted piece by piece.
+-- Assumes nothing.
+use mathlib.Core.Path.{_≡_, refl, sym, ap, ap₂, _∙_}
+use mathlib.Core.Bool.{Bool, true, false, cond}
+use mathlib.Core.List.{List, [], _∷_, _++_, append-nil}
+use Prim.Native.Nat.{ℕ, zero, suc, _+_, _-_, _≤_, _<_}
+use native.Mathlib.Omega.{arith}
+use lib.Dec.{eqb}
+use lib.ListN.{length, getD}
+use borrow.Author.Tests.{eqb-true, eqb-false, eq-eqb, ne-eqb}
+use Rattle.laws.specs.Lists.{joined}
+use Rattle.laws.proofs.Cases.{by-test}
+use Rattle.bench.specs.Lines.{lineFeed}
+use Rattle.convert.specs.Logs.{Line, linesOf, writtenOf, refusalOf, Conversion, finished, after, convertedLines, conversion, counted, inPieces}
+use Rattle.convert.specs.Statements.{CutAfterLines, PiecesLaw}
+use Rattle.convert.proofs.LogLines.{lines-none, lines-append}
+use Rattle.convert.proofs.Conversions.{goes-on, stops, either, no-lines, after-after, number-after, length-after}
+use Rattle.convert.proofs.Rooms.{other-room}
+
+-- ---- line numbers
+
+count-after : (n : ℕ) (bytes : List ℕ) (c : Conversion) → counted n (after bytes c) ≡ after bytes (counted n c)
+unfolding counted after
+count-after n bytes c = refl
+
+count-some : (n k m : ℕ) → (m ≡ 0 → ⊥)
+    → counted n (record { written = []; number = m; line = k }) ≡ record { written = []; number = m; line = n + k }
+unfolding counted
+count-some n k m h = rw (ne-eqb m 0 h)
+
+count-none : (n : ℕ) → counted n finished ≡ finished
+unfolding counted
+count-none n = refl
+
+-- lines that are counted from n + k on
+numbered : (wide : Bool) (room n k : ℕ) (ls : List Line) → convertedLines wide room (n + k) ls ≡ counted n (convertedLines wide room k ls)
+numbered wide room n k [] = no-lines wide room (n + k) ∙ sym (count-none n) ∙ ap (counted n) (sym (no-lines wide room k))
+numbered wide room n k (l ∷ ls) =
+    by-test (eqb (refusalOf wide room l) 0) (convertedLines wide room (n + k) (l ∷ ls) ≡ counted n (convertedLines wide room k (l ∷ ls)))
+    (λ t.
+    let e = eqb-true (refusalOf wide room l) 0 t in
+    let less = room - length (writtenOf wide l) in
+    let next : suc (n + k) ≡ n + suc k = omega arith in
+    goes-on wide room (n + k) l ls e
+    ∙ ap (after (writtenOf wide l)) (ap (λ (x : ℕ). convertedLines wide less x ls) next ∙ numbered wide less n (suc k) ls)
+    ∙ sym (count-after n (writtenOf wide l) (convertedLines wide less (suc k) ls)) ∙ ap (counted n) (sym (goes-on wide room k l ls e)))
+    (λ t.
+    let s = eqb-false (refusalOf wide room l) 0 t in
+    stops wide room (n + k) l ls s ∙ sym (count-some n k (refusalOf wide room l) s) ∙ ap (counted n) (sym (stops wide room k l ls s)))
+
+-- ---- lines and those after them
+
+module _ (wide : Bool) (ms : List Line) where
+  -- what comes after the first ones, with the room that they leave
+  abbrev followed : ℕ → ℕ → Conversion → Conversion
+  followed room k c = after (c .written) (convertedLines wide (room - length (c .written)) k ms)
+
+  followed-none : (room k : ℕ) → followed room (k + 0) finished ≡ convertedLines wide room k ms
+  unfolding after
+  followed-none room k =
+      let z : room - 0 ≡ room = omega arith in
+      let same : k + 0 ≡ k = omega arith in
+      ap₂ (λ (r n : ℕ). convertedLines wide r n ms) z same
+
+  followed-more : (room k : ℕ) (bytes : List ℕ) (c : Conversion) → after bytes (followed (room - length bytes) k c) ≡ followed room k (after bytes c)
+  followed-more room k bytes c =
+      let less : room - length bytes - length (c .written) ≡ room - length (after bytes c .written) = omega (arith, length-after bytes c) in
+      after-after bytes (c .written) _ ∙ ap (λ (r : ℕ). after (bytes ++ c .written) (convertedLines wide r k ms)) less
+      ∙ ap (λ (x : List ℕ). after x (convertedLines wide (room - length (after bytes c .written)) k ms)) (unfold after in refl)
+
+  -- where the first ones are all written
+  goes-over : (room k : ℕ) (ls : List Line) → convertedLines wide room k ls .number ≡ 0
+      → convertedLines wide room k (ls ++ ms) ≡ followed room (k + length ls) (convertedLines wide room k ls)
+  goes-over room k [] e = sym (followed-none room k) ∙ ap (followed room (k + 0)) (sym (no-lines wide room k))
+  goes-over room k (l ∷ ls) e =
+      by-test (eqb (refusalOf wide room l) 0) (convertedLines wide room k (l ∷ (ls ++ ms)) ≡ followed room (k + suc (length ls)) (convertedLines wide room k (l ∷ ls)))
+      (λ t.
+      let a = eqb-true (refusalOf wide room l) 0 t in
+      let less = room - length (writtenOf wide l) in
+      let rest = convertedLines wide less (suc k) ls in
+      let here = goes-on wide room k l ls a in
+      let none : rest .number ≡ 0 = sym (ap (λ (c : Conversion). c .number) here ∙ number-after (writtenOf wide l) rest) ∙ e in
+      let count : suc k + length ls ≡ k + suc (length ls) = omega arith in
+      goes-on wide room k l (ls ++ ms) a
+      ∙ ap (after (writtenOf wide l)) (goes-over less (suc k) ls none ∙ ap (λ (n : ℕ). followed less n rest) count)
+      ∙ followed-more room (k + suc (length ls)) (writtenOf wide l) rest ∙ ap (followed room (k + suc (length ls))) (sym here))
+      (λ t.
+      let s = eqb-false (refusalOf wide room l) 0 t in
+      absurd (s (sym (ap (λ (c : Conversion). c .number) (stops wide room k l ls s)) ∙ e)))
+
+  -- where one of them is refused
+  stops-before : (room k : ℕ) (ls : List Line) → (convertedLines wide room k ls .number ≡ 0 → ⊥)
+      → convertedLines wide room k (ls ++ ms) ≡ convertedLines wide room k ls
+  stops-before room k [] n = absurd (n (ap (λ (c : Conversion). c .number) (no-lines wide room k)))
+  stops-before room k (l ∷ ls) n =
+      by-test (eqb (refusalOf wide room l) 0) (convertedLines wide room k (l ∷ (ls ++ ms)) ≡ convertedLines wide room k (l ∷ ls))
+      (λ t.
+      let e = eqb-true (refusalOf wide room l) 0 t in
+      let less = room - length (writtenOf wide l) in
+      let here = goes-on wide room k l ls e in
+      let some : convertedLines wide less (suc k) ls .number ≡ 0 → ⊥ =
+      λ z. n (ap (λ (c : Conversion). c .number) here ∙ number-after (writtenOf wide l) (convertedLines wide less (suc k) ls) ∙ z) in
+      goes-on wide room k l (ls ++ ms) e ∙ ap (after (writtenOf wide l)) (stops-before less (suc k) ls some) ∙ sym here)
+      (λ t.
+      let s = eqb-false (refusalOf wide room l) 0 t in
+      stops wide room k l (ls ++ ms) s ∙ sym (stops wide room k l ls s))
+
+-- ---- pieces
+
+joined-nothing : joined (λ (p : List ℕ). p) [] ≡ []
+unfolding joined
+joined-nothing = refl
+
+-- the lines of a piece and of those after it
+lines-pieces : (piece : List ℕ) (pieces : List (List ℕ)) → CutAfterLines (piece ∷ pieces)
+    → linesOf (joined (λ p. p) (piece ∷ pieces)) ≡ linesOf piece ++ linesOf (joined (λ p. p) pieces)
+unfolding joined
+lines-pieces piece [] cut = ap linesOf (append-nil piece) ∙ sym (append-nil (linesOf piece)) ∙ ap (λ (x : List Line). linesOf piece ++ x) (sym lines-none)
+lines-pieces piece (next ∷ pieces) cut =
+    let ended = cut 0 (omega arith) in
+    lines-append piece _ (ended .0) (ended .1)
+
+counted-written : (before : ℕ) (c : Conversion) → counted before c .written ≡ c .written
+unfolding counted
+counted-written before c = refl
+
+counted-number : (before : ℕ) (c : Conversion) → counted before c .number ≡ c .number
+unfolding counted
+counted-number before c = refl
+
+-- a piece whose lines are all written, and one in which a line is refused
+module _ (wide : Bool) (room before : ℕ) (piece : List ℕ) (pieces : List (List ℕ)) where
+  abbrev here : Conversion
+  here = conversion wide room piece
+
+  abbrev later : Conversion
+  later = inPieces wide room (before + length (linesOf piece)) pieces
+
+  pieces-on : here .number ≡ 0 → inPieces wide room before (piece ∷ pieces) ≡ after (here .written) later
+  unfolding inPieces
+  pieces-on e = rw (eq-eqb (here .number) 0 e)
+
+  pieces-stop : (here .number ≡ 0 → ⊥) → inPieces wide room before (piece ∷ pieces) ≡ counted before here
+  unfolding inPieces
+  pieces-stop n = rw (ne-eqb (here .number) 0 n)
+
+  -- the piece's own lines, in another room, counted from those before
+  here-is : (whole : ℕ) → (here .number ≡ 46 → ⊥) → length (here .written) ≤ whole
+      → convertedLines wide whole (before + 1) (linesOf piece) ≡ counted before here
+  unfolding conversion
+  here-is whole n h =
+      numbered wide whole before 1 (linesOf piece) ∙ ap (counted before) (other-room wide room whole 1 (linesOf piece) n h)
+
+  abbrev both : Conversion
+  both = inPieces wide room before (piece ∷ pieces)
+
+  module _ (whole : ℕ) (n : both .number ≡ 46 → ⊥) (h : length (both .written) ≤ whole) (ls : List Line) where
+    on : here .number ≡ 0
+        → ((later .number ≡ 46 → ⊥) → length (later .written) ≤ whole - length (here .written)
+        → convertedLines wide (whole - length (here .written)) (before + length (linesOf piece) + 1) ls ≡ later)
+        → convertedLines wide whole (before + 1) (linesOf piece ++ ls) ≡ both
+    on e rest =
+        let more = pieces-on e in
+        let size : length (both .written) ≡ length (here .written) + length (later .written) =
+        ap (λ (c : Conversion). length (c .written)) more ∙ length-after (here .written) later in
+        let is = here-is whole (λ z. omega (arith, e, z)) (omega (arith, h, size)) in
+        let none : convertedLines wide whole (before + 1) (linesOf piece) .number ≡ 0 =
+        ap (λ (c : Conversion). c .number) is ∙ counted-number before here ∙ e in
+        let count : before + 1 + length (linesOf piece) ≡ before + length (linesOf piece) + 1 = omega arith in
+        let last = rest (λ z. n (ap (λ (c : Conversion). c .number) more ∙ number-after (here .written) later ∙ z)) (omega (arith, h, size)) in
+        goes-over wide ls whole (before + 1) (linesOf piece) none
+        ∙ ap (λ (x : List ℕ). after x (convertedLines wide (whole - length x) (before + 1 + length (linesOf piece)) ls))
+        (ap (λ (c : Conversion). c .written) is ∙ counted-written before here)
+        ∙ ap (after (here .written)) (ap (λ (k : ℕ). convertedLines wide (whole - length (here .written)) k ls) count ∙ last) ∙ sym more
+
+    stop : (here .number ≡ 0 → ⊥) → convertedLines wide whole (before + 1) (linesOf piece ++ ls) ≡ both
+    stop s =
+        let end = pieces-stop s in
+        let number : both .number ≡ here .number = ap (λ (c : Conversion). c .number) end ∙ counted-number before here in
+        let size : length (both .written) ≡ length (here .written) = ap (λ (c : Conversion). length (c .written)) end ∙ ap length (counted-written before here) in
+        let is = here-is whole (λ z. n (number ∙ z)) (omega (arith, h, size)) in
+        let some : convertedLines wide whole (before + 1) (linesOf piece) .number ≡ 0 → ⊥ =
+        λ z. s (sym (ap (λ (c : Conversion). c .number) is ∙ counted-number before here) ∙ z) in
+        stops-before wide ls whole (before + 1) (linesOf piece) some ∙ is ∙ sym end
+
+no-pieces : (wide : Bool) (room before : ℕ) → inPieces wide room before [] ≡ finished
+unfolding inPieces
+no-pieces wide room before = refl
+
+later-cut : (piece : List ℕ) (pieces : List (List ℕ)) → CutAfterLines (piece ∷ pieces) → CutAfterLines pieces
+later-cut piece pieces cut k h = cut (suc k) (omega arith)
+
+module _ (wide : Bool) (room : ℕ) where
+  piece-by-piece : (pieces : List (List ℕ)) (before whole : ℕ) → CutAfterLines pieces → (inPieces wide room before pieces .number ≡ 46 → ⊥)
+      → length (inPieces wide room before pieces .written) ≤ whole
+      → convertedLines wide whole (before + 1) (linesOf (joined (λ p. p) pieces)) ≡ inPieces wide room before pieces
+  piece-by-piece [] before whole cut n h =
+      ap (convertedLines wide whole (before + 1)) (ap linesOf joined-nothing ∙ lines-none)
+      ∙ no-lines wide whole (before + 1) ∙ sym (no-pieces wide room before)
+  piece-by-piece (piece ∷ pieces) before whole cut n h =
+      ap (convertedLines wide whole (before + 1)) (lines-pieces piece pieces cut)
+      ∙ by-test (eqb (conversion wide room piece .number) 0)
+      (convertedLines wide whole (before + 1) (linesOf piece ++ linesOf (joined (λ p. p) pieces)) ≡ inPieces wide room before (piece ∷ pieces))
+      (λ t.
+      on wide room before piece pieces whole n h (linesOf (joined (λ p. p) pieces)) (eqb-true (conversion wide room piece .number) 0 t)
+      (piece-by-piece pieces (before + length (linesOf piece)) (whole - length (conversion wide room piece .written)) (later-cut piece pieces cut)))
+      (λ t. stop wide room before piece pieces whole n h (linesOf (joined (λ p. p) pieces)) (eqb-false (conversion wide room piece .number) 0 t))
+
+pub in-pieces : PiecesLaw
+unfolding conversion
+in-pieces wide room whole pieces cut n h = piece-by-piece wide room pieces 0 whole cut n h

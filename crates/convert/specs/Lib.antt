@@ -1,0 +1,5 @@
+pub mod Texts
+pub mod Logs
+pub mod Promises
+pub mod Statements
+pub mod Examples
