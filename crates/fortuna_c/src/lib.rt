@@ -1,6 +1,7 @@
 // The C interface: include/fortuna.h says the same in C's words.
 mod aes256;
 mod aes256_bytewise;
+mod call_logs;
 mod ctr_drbg_calls;
 mod fortuna_generator;
 mod health_tests;
@@ -14,6 +15,8 @@ pub use aes256::fortuna_aes256_block;
 pub use aes256::fortuna_aes256_expand;
 pub use aes256_bytewise::fortuna_aes256_bytewise_block;
 pub use aes256_bytewise::fortuna_aes256_bytewise_expand;
+pub use call_logs::FortunaConversion;
+pub use call_logs::fortuna_convert;
 pub use ctr_drbg_calls::fortuna_ctr_drbg_generate;
 pub use ctr_drbg_calls::fortuna_ctr_drbg_instantiate;
 pub use ctr_drbg_calls::fortuna_ctr_drbg_new;
