@@ -1,6 +1,6 @@
 /* Fortuna with its pools, timer and seeds, the generator alone, SHA-256, D and AES-256, health tests that tell a stuck
-   noise source, and NIST's CTR_DRBG: the static library fortuna_c, for x86-64. It calls memcpy and memset, and nothing
-   else.
+   noise source, NIST's CTR_DRBG, and a converter of call logs between frames 01 and 05: the static library fortuna_c,
+   for x86-64. It calls memcpy and memset, and nothing else.
 
    STATIONS START FRESH AFTER THE UPDATE TO THE 2010 EDITION'S D: call fortuna_new, then fortuna_update with the stored
    seed. Take up no fortuna_state that was kept by a version whose header has fortuna_double_sha256, the name of D then.
@@ -49,6 +49,7 @@
        fortuna_metered_random_below    53,248
        fortuna_metered_shuffle         64,512
        fortuna_log                    270,336
+       fortuna_convert                  1,536
        fortuna_health_new                 256
        fortuna_health_test                256
        fortuna_ctr_drbg_new               256
@@ -71,9 +72,10 @@
    Numbers returned: FORTUNA_DONE, or the number of a refusal. Where more than one applies it is the first in the order
    of the list below, but for CTR_DRBG, whose section has its order. After a refusal buffers, quotas and state are as
    before; pools emptied are 0. FORTUNA_NONE_DRAWN differs: the call's tries were made, so that the state has advanced.
-   If that emptied pools, quotas are unspent; the numbers of a shuffle are as before. No call is refused for another
-   reason. A sample that fails a health test is no refusal: the number is FORTUNA_DONE, and fortuna_health_passed
-   tells. */
+   If that emptied pools, quotas are unspent; the numbers of a shuffle are as before. fortuna_convert differs too: the
+   lines before the refused one stand in its buffer, and only what is behind them is as before. No call is refused for
+   another reason. A sample that fails a health test is no refusal: the number is FORTUNA_DONE, and
+   fortuna_health_passed tells. */
 #ifndef FORTUNA_H
 #define FORTUNA_H
 
@@ -97,7 +99,7 @@ enum {
     FORTUNA_REQUEST_TOO_LONG = 14,
     /* a seed update or a seed write: a seed buffer that is not exactly 64 bytes */
     FORTUNA_BAD_SEED = 15,
-    /* a line of a log that is no frame; no function returns it, it stands in fortuna_log's answers */
+    /* a line of a log that is no frame: fortuna_convert returns it; for fortuna_log it stands in the answers */
     FORTUNA_NO_FRAME = 16,
     /* a message for SHA-256 above 2^61 - 1 bytes, a message for D above 2^61 - 65 bytes, or a seed for the generator
        alone above 2^61 - 97 bytes */
@@ -142,7 +144,11 @@ enum {
     FORTUNA_INPUT_TOO_LONG = 41,
     /* CTR_DRBG: a reseed or a request on a state that was never seeded, which is reseed_counter 0; a request where 2^48
        or more were made since the last seeding, which is reseed_counter above 2^48 */
-    FORTUNA_SEEDING_NEEDED = 42
+    FORTUNA_SEEDING_NEEDED = 42,
+    /* a conversion to frames 01: an event of a source above 255, for which a frame 01 has no place */
+    FORTUNA_LARGE_SOURCE = 43,
+    /* a conversion: no room left for the converted line and its line feed */
+    FORTUNA_NO_ROOM = 46
 };
 
 /* SHA-256 (FIPS 180-4) of length bytes at data, into 32 bytes at digest.
@@ -401,6 +407,39 @@ fortuna_answer fortuna_metered_shuffle(fortuna_state *state, fortuna_quota *quot
    the refusal; after 00 for 02, 03 and 04 a space and the pools emptied in two decimal digits, then, unless n = 0, a
    space and the bytes in capital hexadecimal. Stores as many characters as there is room for, and returns how many. */
 size_t fortuna_log(const uint8_t *log, size_t length, uint8_t *out, size_t room);
+
+/* ---- Logs of both kinds: with events by frame 01, as in archives, and by frame 05, as new hubs write them
+
+   fortuna_convert writes a log with its events by the other frame. bin/convert is the command for files.
+
+   - 01 and the source's byte become 05, 00 and that byte, or the other way round. Nothing else changes: frames 02, 03
+     and 04, line feeds, and events that are by the wanted frame already are written as they stand. An event's pool and
+     data are not looked at: what a station would refuse (FORTUNA_BAD_POOL, FORTUNA_BAD_DATA) is converted too.
+   - fortuna_log gives equal answers for a log and for its whole conversion. A line by frame 01 that is converted to 05
+     and back is the line that it was.
+   - Every line must be a frame, as fortuna_log takes it (else FORTUNA_NO_FRAME). An empty line is none, nor is one with
+     a carriage return. A line feed ends a line, and the end of the log ends a last line that has none; that one is
+     written without one, and needs room for its own characters alone.
+   - The first line that is refused ends the call. The lines before it stand in out, and the rest of out is as before.
+     For a line the first that applies is given of FORTUNA_NO_FRAME, FORTUNA_LARGE_SOURCE and FORTUNA_NO_ROOM.
+   - Room that is always enough: for 05 4/3 of the log's length, rounded up, which is length + (length + 2) / 3; for 01
+     the log's length. FORTUNA_NO_ROOM does not come then.
+   - A log of any length, in little memory: cut it after line feeds, convert piece after piece, and put together what is
+     written. To a refused piece's line add the number of line feeds in the pieces before it. 259 characters without a
+     line feed are more than a frame has: give such a piece as it is, it is refused (FORTUNA_NO_FRAME).
+     examples/c/convert.c does all this. */
+
+/* The number; the line that was refused, from 1, and 0 where none was; and how many bytes were written to out. */
+typedef struct {
+    uint32_t number;
+    size_t line;
+    size_t written;
+} fortuna_conversion;
+
+/* Converts the length characters at log into the room bytes at out, to events by frame 05 where wide is set, else by
+   frame 01. Keeps nothing from call to call.
+   FORTUNA_DONE, FORTUNA_NO_FRAME, FORTUNA_LARGE_SOURCE, which comes only where wide is not set, or FORTUNA_NO_ROOM. */
+fortuna_conversion fortuna_convert(const uint8_t *log, size_t length, bool wide, uint8_t *out, size_t room);
 
 /* ---- Health tests of a noise source (NIST SP 800-90B, 4.4.1 and 4.4.2)
 
