@@ -3,8 +3,8 @@
    stuck: the health tests tell before its stuck readings become an event. Another digitiser is fresh from the works:
    its page of flash memory was never written, so it waits for noise before it has a seed. At a later power-up a
    tiltmeter floods: a list of quotas turns back what is too much, and the seismometer goes on. At the last one the
-   digitiser is a permanent station, whose network wants keys from CTR_DRBG. Noise, clock and flash pages are stand-ins,
-   so each run prints the same.
+   digitiser is a permanent station, whose network wants keys from CTR_DRBG. A log of calls is run, and logs are
+   converted from frame 01 to 05 and back. Noise, clock and flash pages are stand-ins, so each run prints the same.
 
    One call at a time on a state: here the task that runs main owns the state and makes every call. Interrupts only put
    noise into a ring buffer, and the owner takes it from there between its other calls. */
@@ -50,6 +50,7 @@ static const struct {
     {FORTUNA_BAD_DATA, "no data, or more than 32 bytes"},
     {FORTUNA_REQUEST_TOO_LONG, "more than 1,048,576 bytes asked for, or 65,536 of CTR_DRBG"},
     {FORTUNA_BAD_SEED, "a seed that is not 64 bytes"},
+    {FORTUNA_NO_FRAME, "a line that is no frame"},
     {FORTUNA_TOO_LONG, "a message above 2^61 - 65 bytes"},
     {FORTUNA_SLOT_RANGE, "a bound outside 1 to 2^32, or a list that is too long or repeats a number"},
     {FORTUNA_TRY_RANGE, "tries outside 1 to 64"},
@@ -67,6 +68,8 @@ static const struct {
     {FORTUNA_ENTROPY_LENGTH, "entropy input that is not 48 bytes"},
     {FORTUNA_INPUT_TOO_LONG, "more than 48 bytes of another input"},
     {FORTUNA_SEEDING_NEEDED, "never seeded, or 2^48 requests since"},
+    {FORTUNA_LARGE_SOURCE, "a source above 255, for which frame 01 has no place"},
+    {FORTUNA_NO_ROOM, "no room for the converted line"},
 };
 
 static const char *reason(uint32_t number)
@@ -366,6 +369,38 @@ static void run_log(void)
     printf("a log's answers:\n%.*s", (int)stored, (const char *)answers);
 }
 
+static void show_log(const char *what, const uint8_t *log, size_t length)
+{
+    printf("%s:\n%.*s", what, (int)length, (const char *)log);
+}
+
+/* A log from the archive, for a reader that knows frame 05 alone, and back: the same log. The buffers have room that is
+   always enough: 4/3 of the log's length for 05, the log's length for 01. */
+static void convert_archive(void)
+{
+    static const uint8_t log[] = "010700A1B2\n02000000640010\n01FF1F3C\n";
+    enum { LENGTH = sizeof log - 1 };
+    uint8_t wide[LENGTH + (LENGTH + 2) / 3], narrow[sizeof wide];
+    fortuna_conversion there = fortuna_convert(log, LENGTH, true, wide, sizeof wide);
+    must("conversion to frame 05", there.number);
+    show_log("an archive's log, by frame 05", wide, there.written);
+    fortuna_conversion back = fortuna_convert(wide, there.written, false, narrow, sizeof narrow);
+    must("conversion to frame 01", back.number);
+    show_log("and by frame 01 again", narrow, back.written);
+}
+
+/* A log from a hub, for a reader that knows frame 01 alone. Source 900 has no place there: the call says in which line,
+   and the lines before it are written. */
+static void convert_hub(void)
+{
+    static const uint8_t log[] = "05000700A1B2\n02000000640010\n050384003C\n04000000C8\n";
+    uint8_t narrow[sizeof log];
+    fortuna_conversion c = fortuna_convert(log, sizeof log - 1, false, narrow, sizeof narrow);
+    if (c.number != FORTUNA_DONE)
+        printf("a hub's log by frame 01, line %zu: refused, %u (%s)\n", c.line, c.number, reason(c.number));
+    show_log("the lines before it", narrow, c.written);
+}
+
 /* Another digitiser, fresh from the works. Its second power-up finds the seed that the first one left in the page. */
 static void start_twice(void)
 {
@@ -568,6 +603,8 @@ int main(void)
 
     write_seed(&f, 2000, flash);
     run_log();
+    convert_archive();
+    convert_hub();
     start_twice();
     flood(flash);
     run_permanent(flash);

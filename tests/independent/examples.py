@@ -1,8 +1,8 @@
 #!/usr/bin/env python3
 """What the programs in examples/ must print, worked out by station.py, for the ciphers by aes256.py, for the log by
-logbook.py, for the permanent station's keys by ctr_drbg.py, and for the reading that fails a health test by health.py,
-from all readings of the source at once. Which of the tiltmeter's events are taken follows from division: its allowance
-by what an event takes of it.
+logbook.py, for converted logs by convert.py, for the permanent station's keys by ctr_drbg.py, and for the reading that
+fails a health test by health.py, from all readings of the source at once. Which of the tiltmeter's events are taken
+follows from division: its allowance by what an event takes of it.
 
     tests/independent/examples.py                  prints it
     tests/independent/examples.py --check FILE     exits 1 where FILE differs"""
@@ -14,6 +14,7 @@ import generator
 import logbook
 import station
 from aes256 import encrypt
+from convert import convert
 from health import FRESH, Health
 
 SEED = b"a seed from the workshop, other bytes for each digitiser".ljust(64, b"\0")
@@ -32,6 +33,8 @@ COST = 3 + READINGS  # what an event takes of its source's allowance
 ALLOWANCE = 32 * COST
 FLOOD = 10  # events of the tiltmeter where others send one
 LOG = b"010700A1B2\n050384003C\n02000000640010\nFF\n"
+ARCHIVE = b"010700A1B2\n02000000640010\n01FF1F3C\n"
+HUB = b"05000700A1B2\n02000000640010\n050384003C\n04000000C8\n"
 NAME, LINK = b"permanent station 12", b"link to the observatory"
 
 
@@ -86,6 +89,22 @@ def slot_line(clock, outcome):
 
 def polling_line(outcome):
     return f"polling list: {' '.join(map(str, outcome.buffer))}"
+
+
+def conversion_lines():
+    """Of the archive's log by frame 05 and back, and of the hub's up to a source that frame 01 has no place for."""
+    number, line, wide = convert(ARCHIVE, True, 2 * len(ARCHIVE))
+    assert (number, line) == (0, 0)
+    yield "an archive's log, by frame 05:"
+    yield from wide.decode().splitlines()
+    assert convert(wide, False, len(wide)) == (0, 0, ARCHIVE)
+    yield "and by frame 01 again:"
+    yield from ARCHIVE.decode().splitlines()
+    number, line, before = convert(HUB, False, len(HUB))
+    why = "a source above 255, for which frame 01 has no place"
+    yield f"a hub's log by frame 01, line {line}: refused, {number} ({why})"
+    yield "the lines before it:"
+    yield from before.decode().splitlines()
 
 
 def works_lines():
@@ -193,6 +212,7 @@ def lines():
     yield f"seed for the next start: {written.buffer.hex()}"
     yield "a log's answers:"
     yield from (line.decode().rstrip() for line in logbook.answers(io.BytesIO(LOG)))
+    yield from conversion_lines()
     yield from works_lines()
     page = yield from flood_lines(written.buffer)
     yield from permanent_lines(page)

@@ -1,10 +1,11 @@
-//! A safe wrapper of the proved Fortuna, of the health tests of its noise sources, and of NIST's CTR_DRBG.
-//! include/fortuna.h says what each call does, and how much stack it needs.
+//! A safe wrapper of the proved Fortuna, of the health tests of its noise sources, of NIST's CTR_DRBG, and of the
+//! converter of call logs. include/fortuna.h says what each call does, and how much stack it needs.
 use std::fmt;
 use std::mem::{offset_of, size_of};
 
 /// Why a call was refused, with the number of the header. After a refusal state, buffers and quotas are as before, save
 /// that after `NoneDrawn` the state has advanced by the tries made, and if they made a pool reseed, nothing is spent.
+/// Of a log that `convert` refused the lines before the refused one stand in the buffer.
 #[derive(Clone, Copy, Debug, PartialEq, Eq)]
 pub enum Refusal {
     BadSource = 11,
@@ -12,6 +13,7 @@ pub enum Refusal {
     BadData = 13,
     RequestTooLong = 14,
     BadSeed = 15,
+    NoFrame = 16,
     MessageTooLong = 17,
     Malformed = 21,
     PoolFull = 22,
@@ -29,6 +31,8 @@ pub enum Refusal {
     EntropyLength = 40,
     InputTooLong = 41,
     SeedingNeeded = 42,
+    LargeSource = 43,
+    NoRoom = 46,
 }
 
 impl Refusal {
@@ -39,6 +43,7 @@ impl Refusal {
             13 => Refusal::BadData,
             14 => Refusal::RequestTooLong,
             15 => Refusal::BadSeed,
+            16 => Refusal::NoFrame,
             17 => Refusal::MessageTooLong,
             21 => Refusal::Malformed,
             22 => Refusal::PoolFull,
@@ -56,6 +61,8 @@ impl Refusal {
             40 => Refusal::EntropyLength,
             41 => Refusal::InputTooLong,
             42 => Refusal::SeedingNeeded,
+            43 => Refusal::LargeSource,
+            46 => Refusal::NoRoom,
             _ => unreachable!("the header has no number {number} for these calls"),
         }
     }
@@ -67,6 +74,7 @@ impl Refusal {
             Refusal::BadData => "no data, or more than 32 bytes",
             Refusal::RequestTooLong => "more than 1,048,576 bytes asked for, or 65,536 of CTR_DRBG",
             Refusal::BadSeed => "a seed that is not 64 bytes",
+            Refusal::NoFrame => "a line that is no frame",
             Refusal::MessageTooLong => "a message above 2^61 - 65 bytes",
             Refusal::Malformed => "a malformed state",
             Refusal::PoolFull => "a full pool",
@@ -88,6 +96,8 @@ impl Refusal {
             Refusal::EntropyLength => "entropy input that is not 48 bytes",
             Refusal::InputTooLong => "more than 48 bytes of another input",
             Refusal::SeedingNeeded => "never seeded, or 2^48 requests since",
+            Refusal::LargeSource => "a source above 255, for which frame 01 has no place",
+            Refusal::NoRoom => "no room for the converted line",
         }
     }
 }
@@ -164,6 +174,29 @@ impl fmt::Display for NotPassed {
 }
 
 impl std::error::Error for NotPassed {}
+
+/// Why a log was not converted to its end: the reason, the line that was refused, from 1, and how many bytes were
+/// written, which are the lines before it.
+#[derive(Clone, Copy, Debug, PartialEq, Eq)]
+pub struct NotConverted {
+    pub refusal: Refusal,
+    pub line: usize,
+    pub written: usize,
+}
+
+impl fmt::Display for NotConverted {
+    fn fmt(&self, f: &mut fmt::Formatter) -> fmt::Result {
+        write!(f, "line {}: {}", self.line, self.refusal)
+    }
+}
+
+impl std::error::Error for NotConverted {}
+
+impl From<NotConverted> for Refusal {
+    fn from(not_converted: NotConverted) -> Refusal {
+        not_converted.refusal
+    }
+}
 
 #[repr(C)]
 struct Generator {
@@ -245,6 +278,13 @@ struct CtrDrbgState {
     reseed_counter: u64,
 }
 
+#[repr(C)]
+struct Conversion {
+    number: u32,
+    line: usize,
+    written: usize,
+}
+
 // The sizes that the header's structs have in C, and the places of the fields that stand last or behind smaller ones.
 const _: () = assert!(size_of::<Pool>() == 104 && size_of::<State>() == 3392);
 const _: () = assert!(size_of::<Answer>() == 8 && size_of::<Draw>() == 16);
@@ -256,6 +296,8 @@ const _: () = assert!(offset_of!(HealthAnswer, proportion) == 5);
 const _: () = assert!(size_of::<Aes256>() == 240 && size_of::<Aes256Bytewise>() == 240);
 const _: () = assert!(size_of::<CtrDrbgState>() == 56 && offset_of!(CtrDrbgState, v) == 32);
 const _: () = assert!(offset_of!(CtrDrbgState, reseed_counter) == 48);
+const _: () = assert!(size_of::<Conversion>() == 24 && offset_of!(Conversion, line) == 8);
+const _: () = assert!(offset_of!(Conversion, written) == 16);
 
 extern "C" {
     fn fortuna_sha_d256(data: *const u8, length: usize, digest: *mut [u8; 32]) -> u32;
@@ -326,6 +368,13 @@ extern "C" {
         length: usize,
     ) -> Answer;
     fn fortuna_log(log: *const u8, length: usize, out: *mut u8, room: usize) -> usize;
+    fn fortuna_convert(
+        log: *const u8,
+        length: usize,
+        wide: bool,
+        out: *mut u8,
+        room: usize,
+    ) -> Conversion;
     fn fortuna_health_new() -> HealthState;
     fn fortuna_health_test(
         state: *mut HealthState,
@@ -690,4 +739,39 @@ fn value(draw: Draw) -> Result<Drawn, NotDrawn> {
 /// Runs a log of calls from a fresh station. `out` takes as many characters of the answers as it has room for; gives how many.
 pub fn run_log(log: &[u8], out: &mut [u8]) -> usize {
     unsafe { fortuna_log(log.as_ptr(), log.len(), out.as_mut_ptr(), out.len()) }
+}
+
+/// The frame by which a log has its events: 01 in archives, with one byte for the source, 05 from new hubs, with two.
+#[derive(Clone, Copy, Debug, PartialEq, Eq)]
+pub enum EventFrame {
+    F01,
+    F05,
+}
+
+impl EventFrame {
+    /// Room that is always enough to convert a log of this length to this frame: then no line is refused as `NoRoom`.
+    pub fn room(self, length: usize) -> usize {
+        match self {
+            EventFrame::F01 => length,
+            EventFrame::F05 => length + length.div_ceil(3),
+        }
+    }
+}
+
+/// Writes a log to `out` with all its events by the frame that is wanted, and nothing else changed. Gives how many
+/// bytes that are. The first line that is refused ends it: `NoFrame`, `LargeSource` (above 255, where 01 is wanted) or
+/// `NoRoom`, the first that applies. A log may be cut after any line feed and converted piece by piece; in each piece
+/// lines count from 1.
+pub fn convert(log: &[u8], wanted: EventFrame, out: &mut [u8]) -> Result<usize, NotConverted> {
+    let wide = wanted == EventFrame::F05;
+    let (at, room) = (out.as_mut_ptr(), out.len());
+    let answer = unsafe { fortuna_convert(log.as_ptr(), log.len(), wide, at, room) };
+    match answer.number {
+        0 => Ok(answer.written),
+        number => Err(NotConverted {
+            refusal: Refusal::from_number(number),
+            line: answer.line,
+            written: answer.written,
+        }),
+    }
 }

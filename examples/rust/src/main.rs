@@ -4,14 +4,15 @@
 //! become an event. Another digitiser is fresh from the works: its page of flash memory was
 //! never written, so it waits for noise before it has a seed. At a later power-up a tiltmeter
 //! floods: a list of quotas turns back what is too much, and the seismometer goes on. At the last
-//! one the digitiser is a permanent station, whose network wants keys from CTR_DRBG. Noise, clock
-//! and flash pages are stand-ins, so that each run prints the same.
+//! one the digitiser is a permanent station, whose network wants keys from CTR_DRBG. A log of calls
+//! is run, and logs are converted from frame 01 to 05 and back. Noise, clock and flash pages are
+//! stand-ins, so that each run prints the same.
 //!
 //! One call at a time on a state: `main` owns it, and each call borrows it alone. Noise from interrupts or other
 //! threads would come through a queue.
 use fortuna::{
-    run_log, sha_d256, Aes256, Aes256Bytewise, CtrDrbg, Drawn, Fortuna, Health, NotDrawn,
-    NotPassed, Quota, Refusal,
+    convert, run_log, sha_d256, Aes256, Aes256Bytewise, CtrDrbg, Drawn, EventFrame, Fortuna,
+    Health, NotDrawn, NotPassed, Quota, Refusal,
 };
 
 /// A source may be any number up to 65,535.
@@ -272,6 +273,33 @@ fn replay() {
     );
 }
 
+fn show_log(what: &str, log: &[u8]) {
+    print!("{what}:\n{}", String::from_utf8_lossy(log));
+}
+
+/// A log from the archive, for a reader that knows frame 05 alone, and back: the same log.
+fn convert_archive() -> Result<(), Refusal> {
+    let log = b"010700A1B2\n02000000640010\n01FF1F3C\n";
+    let mut wide = vec![0; EventFrame::F05.room(log.len())];
+    let there = convert(log, EventFrame::F05, &mut wide)?;
+    show_log("an archive's log, by frame 05", &wide[..there]);
+    let mut narrow = vec![0; EventFrame::F01.room(there)];
+    let back = convert(&wide[..there], EventFrame::F01, &mut narrow)?;
+    show_log("and by frame 01 again", &narrow[..back]);
+    Ok(())
+}
+
+/// A log from a hub, for a reader that knows frame 01 alone. Source 900 has no place there: the call says in which
+/// line, and the lines before it are written.
+fn convert_hub() {
+    let log = b"05000700A1B2\n02000000640010\n050384003C\n04000000C8\n";
+    let mut narrow = vec![0; EventFrame::F01.room(log.len())];
+    if let Err(not_converted) = convert(log, EventFrame::F01, &mut narrow) {
+        println!("a hub's log by frame 01, {not_converted}");
+        show_log("the lines before it", &narrow[..not_converted.written]);
+    }
+}
+
 /// Another digitiser, fresh from the works. Its second power-up finds the seed that the first one left in the page.
 fn start_twice() -> Result<(), Refusal> {
     let mut page = [0xff; 64];
@@ -474,6 +502,8 @@ fn main() -> Result<(), Refusal> {
 
     write_seed(&mut f, 2000, &mut flash)?;
     replay();
+    convert_archive()?;
+    convert_hub();
     start_twice()?;
     flood(&mut flash)?;
     run_permanent(&mut flash)
