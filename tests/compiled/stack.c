@@ -2,7 +2,7 @@
    Prints a line for each function: its name, the most bytes of stack that a case of it needed, and for calls on a
    state the most copies of its key that stood there when the call had ended: of the key before it, and of the key after
    it; for CTR_DRBG then the same of V. Stops where such a call is refused that should be accepted, or the other way
-   round: a refused one needs less. */
+   round: a refused one needs less. Stops too where a conversion does not answer as it should. */
 #define _GNU_SOURCE
 #include "fortuna.h"
 
@@ -12,7 +12,7 @@
 #include <string.h>
 
 enum { STACK = 1 << 20, PAINT = 0xa5, LIST = 256, SEED = 64, ROOM = 1 << 20, SAMPLES = 1000, RECORDS = 64 };
-enum { SOURCE = 900, ENTROPY = 48, MOST = 65536 };
+enum { SOURCE = 900, ENTROPY = 48, MOST = 65536, LONGEST = 125 };
 
 static uint8_t *stack;
 static fortuna_state state;
@@ -225,6 +225,7 @@ static void add_line(const char *start, int count, int byte)
 static void write_log(void)
 {
     static const char *const refused[] = {"", "0G", "0107", "06", "010720AA", "010703", "0300000000", "02000000000010"};
+    line_count = 0;
     for (size_t i = 0; i < sizeof refused / sizeof *refused; i++)
         add_line(refused[i], 0, 0);
     add_line("0300000000", SEED, 1);
@@ -239,6 +240,49 @@ static void write_log(void)
         add_line("05", 300, turn);
     }
 }
+
+/* A log to convert, with each kind of frame, and the shortest and the longest events of both kinds. The last line has
+   no line feed. */
+static void write_frames(void)
+{
+    line_count = 0;
+    add_line("010703", 0, 0);
+    add_line("05000703", 0, 0);
+    add_line("010703", LONGEST, 1);
+    add_line("05000703", LONGEST, 2);
+    add_line("0200100000FFFF", 0, 0);
+    add_line("0300000000", SEED, 3);
+    add_line("0400300000", 0, 0);
+    add_line("010703", 32, 4);
+    line_count--;
+}
+
+/* The same with a second line that is no frame, and with one whose source frame 01 has no place for. */
+static void write_no_frame(void)
+{
+    write_frames();
+    lines[sizeof "010703"] = 'G';
+}
+
+static void write_large_source(void)
+{
+    write_frames();
+    lines[sizeof "010703" + 2] = 'F';
+}
+
+static void convert(bool wide, size_t room, uint32_t number, size_t line)
+{
+    const fortuna_conversion c = fortuna_convert((const uint8_t *)lines, line_count, wide, out, room);
+    require(c.number == number && c.line == line, "fortuna_convert", "does not answer as it should");
+}
+
+static void widen(void) { convert(true, sizeof out, FORTUNA_DONE, 0); }
+static void narrow(void) { convert(false, sizeof out, FORTUNA_DONE, 0); }
+static void widen_no_frame(void) { convert(true, sizeof out, FORTUNA_NO_FRAME, 2); }
+static void narrow_no_frame(void) { convert(false, sizeof out, FORTUNA_NO_FRAME, 2); }
+static void narrow_large(void) { convert(false, sizeof out, FORTUNA_LARGE_SOURCE, 2); }
+static void widen_one(void) { convert(true, sizeof "05000703", FORTUNA_NO_ROOM, 2); }
+static void narrow_one(void) { convert(false, sizeof "010703", FORTUNA_NO_ROOM, 2); }
 
 /* What a call on a state comes to. The others are not looked at. */
 enum outcome { APART, ACCEPTED, REFUSED };
@@ -297,7 +341,14 @@ static const struct {
     METERED("fortuna_metered_write", metered_write),
     METERED("fortuna_metered_random_below", metered_draw),
     METERED("fortuna_metered_shuffle", metered_shuffle),
-    {"fortuna_log", seeded, run_log, APART},
+    {"fortuna_log", write_log, run_log, APART},
+    {"fortuna_convert", write_frames, widen, APART},
+    {"fortuna_convert", write_frames, narrow, APART},
+    {"fortuna_convert", write_frames, widen_one, APART},
+    {"fortuna_convert", write_frames, narrow_one, APART},
+    {"fortuna_convert", write_no_frame, widen_no_frame, APART},
+    {"fortuna_convert", write_no_frame, narrow_no_frame, APART},
+    {"fortuna_convert", write_large_source, narrow_large, APART},
     {"fortuna_health_new", seeded, health_new, APART},
     {"fortuna_health_test", varied, health_test, APART},
     {"fortuna_health_test", varied, health_cutoff, APART},
@@ -414,7 +465,6 @@ int main(void)
 {
     static uint8_t old[sizeof(fortuna_state)];
     stack = aligned_alloc(4096, STACK);
-    write_log();
     const size_t base = used_by(nothing);
     for (int i = 0; i < CASES;) {
         const char *name = cases[i].name;
