@@ -145,7 +145,7 @@ enum {
     /* CTR_DRBG: a reseed or a request on a state that was never seeded, which is reseed_counter 0; a request where 2^48
        or more were made since the last seeding, which is reseed_counter above 2^48 */
     FORTUNA_SEEDING_NEEDED = 42,
-    /* a conversion to frames 01: an event of a source above 255, for which a frame 01 has no place */
+    /* a conversion to frames 01: an event of a source above 255, which frame 01 can't carry */
     FORTUNA_LARGE_SOURCE = 43,
     /* a conversion: no room left for the converted line and its line feed */
     FORTUNA_NO_ROOM = 46

@@ -68,7 +68,7 @@ static const struct {
     {FORTUNA_ENTROPY_LENGTH, "entropy input that is not 48 bytes"},
     {FORTUNA_INPUT_TOO_LONG, "more than 48 bytes of another input"},
     {FORTUNA_SEEDING_NEEDED, "never seeded, or 2^48 requests since"},
-    {FORTUNA_LARGE_SOURCE, "a source above 255, for which frame 01 has no place"},
+    {FORTUNA_LARGE_SOURCE, "a source above 255, which frame 01 can't carry"},
     {FORTUNA_NO_ROOM, "no room for the converted line"},
 };
 

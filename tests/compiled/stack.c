@@ -257,7 +257,7 @@ static void write_frames(void)
     line_count--;
 }
 
-/* The same with a second line that is no frame, and with one whose source frame 01 has no place for. */
+/* The same with a second line that is no frame, and with one whose source frame 01 can't carry. */
 static void write_no_frame(void)
 {
     write_frames();

@@ -92,7 +92,7 @@ def polling_line(outcome):
 
 
 def conversion_lines():
-    """Of the archive's log by frame 05 and back, and of the hub's up to a source that frame 01 has no place for."""
+    """Of the archive's log by frame 05 and back, and of the hub's up to a source that frame 01 can't carry."""
     number, line, wide = convert(ARCHIVE, True, 2 * len(ARCHIVE))
     assert (number, line) == (0, 0)
     yield "an archive's log, by frame 05:"
@@ -101,7 +101,7 @@ def conversion_lines():
     yield "and by frame 01 again:"
     yield from ARCHIVE.decode().splitlines()
     number, line, before = convert(HUB, False, len(HUB))
-    why = "a source above 255, for which frame 01 has no place"
+    why = "a source above 255, which frame 01 can't carry"
     yield f"a hub's log by frame 01, line {line}: refused, {number} ({why})"
     yield "the lines before it:"
     yield from before.decode().splitlines()

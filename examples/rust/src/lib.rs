@@ -96,7 +96,7 @@ impl Refusal {
             Refusal::EntropyLength => "entropy input that is not 48 bytes",
             Refusal::InputTooLong => "more than 48 bytes of another input",
             Refusal::SeedingNeeded => "never seeded, or 2^48 requests since",
-            Refusal::LargeSource => "a source above 255, for which frame 01 has no place",
+            Refusal::LargeSource => "a source above 255, which frame 01 can't carry",
             Refusal::NoRoom => "no room for the converted line",
         }
     }
