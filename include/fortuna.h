@@ -147,7 +147,7 @@ enum {
     FORTUNA_SEEDING_NEEDED = 42,
     /* a conversion to frames 01: an event of a source above 255, which frame 01 can't carry */
     FORTUNA_LARGE_SOURCE = 43,
-    /* a conversion: no room left for the converted line and its line feed */
+    /* a conversion: no room left for the converted line and its end */
     FORTUNA_NO_ROOM = 46
 };
 
@@ -410,7 +410,8 @@ size_t fortuna_log(const uint8_t *log, size_t length, uint8_t *out, size_t room)
 
 /* ---- Logs of both kinds: with events by frame 01, as in archives, and by frame 05, as new hubs write them
 
-   fortuna_convert writes a log with its events by the other frame. bin/convert is the command for files.
+   fortuna_convert writes a lent log into a lent buffer, with all its events by the frame that is wanted. bin/convert is
+   the command for files.
 
    - 01 and the source's byte become 05, 00 and that byte, or the other way round. Nothing else changes: frames 02, 03
      and 04, line feeds, and events that are by the wanted frame already are written as they stand. An event's pool and
@@ -418,16 +419,16 @@ size_t fortuna_log(const uint8_t *log, size_t length, uint8_t *out, size_t room)
    - fortuna_log gives equal answers for a log and for its whole conversion. A line by frame 01 that is converted to 05
      and back is the line that it was.
    - Every line must be a frame, as fortuna_log takes it (else FORTUNA_NO_FRAME). An empty line is none, nor is one with
-     a carriage return. A line feed ends a line, and the end of the log ends a last line that has none; that one is
-     written without one, and needs room for its own characters alone.
-   - The first line that is refused ends the call. The lines before it stand in out, and the rest of out is as before.
-     For a line the first that applies is given of FORTUNA_NO_FRAME, FORTUNA_LARGE_SOURCE and FORTUNA_NO_ROOM.
+     a carriage return. A line feed ends a line, and the end of the log ends a last line that has none. That one is
+     written without a line feed, and needs room for its characters alone.
+   - The first line that is refused ends the call, also where later lines would be refused by another number. The lines
+     before it stand in out, and the rest of out is as before.
    - Room that is always enough: for 05 4/3 of the log's length, rounded up, which is length + (length + 2) / 3; for 01
      the log's length. FORTUNA_NO_ROOM does not come then.
    - A log of any length, in little memory: cut it after line feeds, convert piece after piece, and put together what is
-     written. To a refused piece's line add the number of line feeds in the pieces before it. 259 characters without a
-     line feed are more than a frame has: give such a piece as it is, it is refused (FORTUNA_NO_FRAME).
-     examples/c/convert.c does all this. */
+     written. Where a line of a piece is refused, stop, and add to its number the line feeds of all pieces before. So
+     come the bytes, the number and the line of the whole log. 259 characters without a line feed are more than a frame
+     has: give them as a piece, which is refused (FORTUNA_NO_FRAME). examples/c/convert.c does all this. */
 
 /* The number; the line that was refused, from 1, and 0 where none was; and how many bytes were written to out. */
 typedef struct {
@@ -437,7 +438,7 @@ typedef struct {
 } fortuna_conversion;
 
 /* Converts the length characters at log into the room bytes at out, to events by frame 05 where wide is set, else by
-   frame 01. Keeps nothing from call to call.
+   frame 01. The two may not overlap: a log is not converted in place.
    FORTUNA_DONE, FORTUNA_NO_FRAME, FORTUNA_LARGE_SOURCE, which comes only where wide is not set, or FORTUNA_NO_ROOM. */
 fortuna_conversion fortuna_convert(const uint8_t *log, size_t length, bool wide, uint8_t *out, size_t room);
 
