@@ -1,6 +1,6 @@
 """What the commands in bin/ build before they run: the bench program, and over the static library the health tests'
-program and one that makes calls with a list of quotas. rt proves whatever has changed; that takes minutes, and standard
-error says how far it is."""
+program, one that makes calls with a list of quotas and one that converts call logs. rt proves whatever has changed; that
+takes minutes, and standard error says how far it is."""
 import contextlib
 import fcntl
 import hashlib
@@ -20,6 +20,7 @@ LIBRARY = "fortuna_c"
 ARCHIVE = TARGET / "staticlib" / f"lib{LIBRARY}.a"
 HEALTH = ROOT / "tests" / "c_interface" / "health.c"
 METERED = ROOT / "tests" / "bench" / "metered.c"
+CONVERT = ROOT / "examples" / "c" / "convert.c"
 LENT = ROOT / "tests" / "c_interface" / "lent.h"
 QUIET = 5  # seconds after which a proof, or the wait for another command's, says how far it is
 EVERY = 10  # seconds from then on
@@ -181,3 +182,7 @@ def health_program(name, verbose=False):
 
 def metered_program(name, verbose=False):
     return library_program(METERED, name, verbose)
+
+
+def convert_program(name, verbose=False):
+    return library_program(CONVERT, name, verbose)

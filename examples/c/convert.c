@@ -1,0 +1,171 @@
+/* convert 05|01 <LOG >CONVERTED
+
+   Converts a call log of any length: events become frames 05, or frames 01. The memory is the same for a short log and
+   for one of gigabytes. bin/convert runs this; docs and usage stand there.
+
+   The library converts a log that is in memory as a whole. Here the log comes in pieces, and each piece is cut after its
+   last line feed: then the library sees whole lines only. What is behind the cut stays for the next piece. A log that is
+   cut so becomes the same bytes as the whole one; the line numbers of the pieces add up.
+
+   Exit status: 0 all lines were converted; 1 a line was refused, and those before it are written; 2 bad words, or
+   reading or writing failed. */
+#define _POSIX_C_SOURCE 200809L
+#include "fortuna.h"
+
+#include <errno.h>
+#include <inttypes.h>
+#include <poll.h>
+#include <stdio.h>
+#include <stdlib.h>
+#include <string.h>
+#include <time.h>
+#include <unistd.h>
+
+/* A line becomes at most two characters longer. The shortest event, 6 characters, becomes 8: so 4/3 of a piece are
+   always room enough, and FORTUNA_NO_ROOM does not come. */
+enum { PIECE = 65536, ROOM = PIECE + PIECE / 3 };
+
+enum { QUIET = 5, EVERY = 10 }; /* seconds before a terminal is told how far the work is, and from then on */
+
+static uint8_t piece[PIECE];
+static uint8_t out[ROOM];
+
+static _Noreturn void failed(const char *what)
+{
+    fprintf(stderr, "convert: %s: %s\n", what, strerror(errno));
+    exit(2);
+}
+
+/* ---- reading and writing */
+
+/* Whether a read or a write that failed is to be tried again: it was interrupted, or its stream does not wait, and is
+   waited for here. */
+static bool again(int stream, short until)
+{
+    if (errno == EINTR)
+        return true;
+    if (errno != EAGAIN && errno != EWOULDBLOCK)
+        return false;
+    struct pollfd waited = {.fd = stream, .events = until};
+    return poll(&waited, 1, -1) >= 0 || errno == EINTR;
+}
+
+/* How many bytes came, up to so many; 0 at the end of the log. */
+static size_t read_some(uint8_t *bytes, size_t most)
+{
+    ssize_t count;
+    while ((count = read(STDIN_FILENO, bytes, most)) < 0)
+        if (!again(STDIN_FILENO, POLLIN))
+            failed("standard input could not be read");
+    return (size_t)count;
+}
+
+static void write_all(const uint8_t *bytes, size_t length)
+{
+    while (length > 0) {
+        ssize_t count = write(STDOUT_FILENO, bytes, length);
+        if (count < 0) {
+            if (!again(STDOUT_FILENO, POLLOUT))
+                failed("standard output could not be written");
+            continue;
+        }
+        bytes += count;
+        length -= (size_t)count;
+    }
+}
+
+/* ---- how far the work is */
+
+static double seconds(void)
+{
+    struct timespec now;
+    clock_gettime(CLOCK_MONOTONIC, &now);
+    return (double)now.tv_sec + (double)now.tv_nsec / 1e9;
+}
+
+/* Says it to a terminal only, so that nothing is said where standard error is kept in a file. */
+static void show_progress(uint64_t lines)
+{
+    static double start, next;
+    double now = seconds();
+    if (next == 0) {
+        start = now;
+        next = now + QUIET;
+    }
+    if (now < next || !isatty(STDERR_FILENO))
+        return;
+    next = now + EVERY;
+    fprintf(stderr, "convert: %.0f s, %" PRIu64 " lines converted\n", now - start, lines);
+}
+
+/* ---- pieces */
+
+/* How many of the bytes are whole lines. */
+static size_t whole_lines(const uint8_t *bytes, size_t length)
+{
+    while (length > 0 && bytes[length - 1] != '\n')
+        length--;
+    return length;
+}
+
+static uint64_t line_feeds(const uint8_t *bytes, size_t length)
+{
+    uint64_t count = 0;
+    for (size_t i = 0; i < length; i++)
+        count += bytes[i] == '\n';
+    return count;
+}
+
+static const char *reason(uint32_t number)
+{
+    switch (number) {
+    case FORTUNA_NO_FRAME:
+        return "not a frame";
+    case FORTUNA_LARGE_SOURCE:
+        return "a source above 255, which frame 01 can't carry";
+    default:
+        return "no room for the converted line";
+    }
+}
+
+/* Converts the first bytes of the piece and writes them. before is how many lines the pieces before had. */
+static void convert(size_t length, bool wide, uint64_t before)
+{
+    fortuna_conversion c = fortuna_convert(piece, length, wide, out, sizeof out);
+    write_all(out, c.written);
+    if (c.number == FORTUNA_DONE)
+        return;
+    fprintf(stderr, "convert: line %" PRIu64 ": %" PRIu32 ", %s\n", before + c.line, c.number, reason(c.number));
+    exit(1);
+}
+
+static void convert_log(bool wide)
+{
+    uint64_t lines = 0;
+    size_t held = 0, count; /* bytes at the piece's start that are not converted yet */
+    while ((count = read_some(piece + held, sizeof piece - held)) > 0) {
+        held += count;
+        size_t length = whole_lines(piece, held);
+        if (length == 0 && held == sizeof piece)
+            length = held; /* a line too long for any frame, which is refused as far as it is here */
+        convert(length, wide, lines);
+        lines += line_feeds(piece, length);
+        held -= length;
+        memmove(piece, piece + length, held);
+        show_progress(lines);
+    }
+    convert(held, wide, lines); /* a last line without a line feed */
+}
+
+int main(int words, char **word)
+{
+    bool wide = words == 2 && strcmp(word[1], "05") == 0;
+    if (!wide && (words != 2 || strcmp(word[1], "01") != 0)) {
+        fprintf(stderr, "usage: convert 05|01 <LOG >CONVERTED\n");
+        return 2;
+    }
+    convert_log(wide);
+    if (close(STDOUT_FILENO) != 0) /* some file systems tell only now that a write has failed */
+        failed("standard output could not be written");
+    return 0;
+}
