@@ -1,11 +1,11 @@
 /* convert 05|01 <LOG >CONVERTED
 
-   Converts a call log of any length: events become frames 05, or frames 01. The memory is the same for a short log and
-   for one of gigabytes. bin/convert runs this; docs and usage stand there.
+   Converts a call log of any length: events become frames 05, or frames 01. It takes as much memory for a short log as
+   for one of gigabytes, and allocates none. bin/convert runs this.
 
-   The library converts a log that is in memory as a whole. Here the log comes in pieces, and each piece is cut after its
-   last line feed: then the library sees whole lines only. What is behind the cut stays for the next piece. A log that is
-   cut so becomes the same bytes as the whole one; the line numbers of the pieces add up.
+   The library converts a log that is in memory as a whole. Here the log comes in pieces, and each piece is cut after
+   its last line feed, so that the library sees whole lines only. What is behind the cut stays for the next piece. A log
+   that is cut so becomes the same bytes as the whole one, and the line numbers of the pieces add up.
 
    Exit status: 0 all lines were converted; 1 a line was refused, and those before it are written; 2 bad words, or
    reading or writing failed. */

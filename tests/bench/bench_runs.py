@@ -54,12 +54,17 @@ def paused_checks():
         yield title, log, answers, partial(run_in_pieces, log=log, size=size, pause=0.005)
 
 
-def interrupted_checks(directory):
-    """EINTR, EAGAIN and short counts at each read and write; then pipes that do not wait."""
+def interrupting(directory):
+    """An environment in which a program's reads and writes are interrupted."""
     library = Path(directory) / "interrupted.so"
     words = ["gcc", "-O2", "-Wall", "-Wextra", "-Werror", "-shared", "-fPIC", "-o", library]
     subprocess.run([*words, Path(__file__).with_name("interrupted.c")], check=True)
-    environment = os.environ | {"LD_PRELOAD": str(library)}
+    return os.environ | {"LD_PRELOAD": str(library)}
+
+
+def interrupted_checks(directory):
+    """EINTR, EAGAIN and short counts at each read and write; then pipes that do not wait."""
+    environment = interrupting(directory)
     for name in ("example", "no_final_newline", "seeds"):
         log, answers = stored(name)
         way = partial(run_on, input=log, env=environment)

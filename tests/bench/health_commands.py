@@ -187,7 +187,7 @@ def tests(folder):
 def copied(folder):
     """A copy of what the commands need, with one crate that has nothing in it."""
     copy = folder / "copy"
-    for name in ("bin", "include", "tests/independent", "tests/bench", "tests/c_interface"):
+    for name in ("bin", "include", "examples/c", "tests/independent", "tests/bench", "tests/c_interface"):
         shutil.copytree(ROOT / name, copy / name, ignore=shutil.ignore_patterns("__pycache__"))
     (copy / "crates" / "fortuna_c").mkdir(parents=True)
     (copy / "crates.txt").write_text("fortuna_c:\n")
@@ -256,11 +256,12 @@ def builds(folder):
 def ends_with_rt(folder):
     """A signal that ends a command while rt runs ends rt too, and nothing is said."""
     copy = copied(folder)
-    bench, checklist = (str(copy / "bin" / name) for name in ("bench", "checklist"))
+    bench, checklist, convert = (str(copy / "bin" / name) for name in ("bench", "checklist", "convert"))
     played, given = with_rt(folder, LONG_RT)
     for words in (
         one_reading(copy, folder),
         [bench, "one.txt"],
+        [convert, "--to", "05", "one.txt"],
         [checklist, "may"],
         [checklist, "april", "--bench", "/bin/false"],
     ):
