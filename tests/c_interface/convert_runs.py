@@ -37,7 +37,7 @@ from wrong_convert import WRONG
 
 BENCH = Path(__file__).resolve().parents[1] / "bench"
 BOTH = (True, False)  # is 05 wanted
-SOURCES = (0, 1, 127, 128, 254, 255, 256, 257, 511, 512, 65280, 65534, 65535)
+SOURCES = (0, 1, 127, 128, 254, 255, 256, 257, 511, 512, 4096, 61440, 65280, 65534, 65535)
 OTHERS = (request(0, 16), update(0, bytes(range(64))), write(0))  # the frames that never change
 
 

@@ -183,6 +183,11 @@ WRONG_REFUSALS = (
     wrong("has 43 for source 65,535 alone", large=above(65534)),
     wrong("has no 43", large=lambda call, line: False),
     wrong("has 43 for every frame 05", large=above(-1)),
+    wrong("looks at the source's first digit alone", large=above(4095)),
+    wrong(
+        "looks at the source's second digit alone",
+        large=lambda call, line: above(255)(call, line[:2] + b"0" + line[3:]),
+    ),
     wrong("takes 256 and its multiples", large=lambda call, line: above(255)(call, line) and line[4:6] != b"00"),
     wrong(
         "has 43 where 05 is wanted too",
