@@ -250,12 +250,21 @@ def check_trip(log, wide):
     return one_kind and there != log
 
 
+def answered(run_of, text, bench):
+    """What the station's logbook answers, and the bench program where it is such a station."""
+    yield b"".join(logbook.answers(io.BytesIO(text), run_of.book()))
+    if bench and run_of.book is logbook.Logbook:
+        yield run(bench, text)
+
+
 def check_run(run_of, bench):
     for title, text, count in conversions(run_of):
         expected = b"".join(run_of.answers.splitlines(keepends=True)[:count])
-        compare(text, expected, b"".join(logbook.answers(io.BytesIO(text), run_of.book())))
-        if bench and run_of.book is logbook.Logbook:
-            compare(text, expected, run(bench, text))
+        for found in answered(run_of, text, bench):
+            try:
+                compare(text, expected, found)
+            except Failure as why:
+                raise Failure(f"{title}: {why}") from None
         print(f"pass  {title}: {count} answers as stored")
     for wide in BOTH:
         if check_trip(run_of.log, wide) and check_trip(told(run_of.log, wide)[2], not wide):
@@ -450,6 +459,8 @@ def main():
     parser.add_argument("--seconds", type=float, default=15)
     parser.add_argument("--seed", type=int, default=random.randrange(2**32))
     chosen = parser.parse_args()
+    if chosen.bench and not chosen.logs:
+        parser.error("--bench goes with --logs")
     try:
         if chosen.logs:
             return check_logs(chosen.bench)
