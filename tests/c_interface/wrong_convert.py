@@ -57,6 +57,17 @@ WRONG_LINES = (
 
 # ---- what a frame is
 
+
+def small_pool(line):
+    """Whether the pool of an event, if it is one, is below 32."""
+    place = {b"01": 4, b"05": 6}.get(line[:2])
+    return place is None or int(line[place : place + 2], 16) < 32
+
+
+def without(first):
+    return {other: sizes for other, sizes in FOLLOWING.items() if other != first}
+
+
 WRONG_FRAMES = (
     shaped("takes small letters", digits=b"0-9A-Fa-f"),
     shaped("takes G for a digit", digits=b"0-9A-G"),
@@ -85,9 +96,7 @@ WRONG_FRAMES = (
     shaped("refuses an 03 whose seed is not 64 bytes", {b"03": (68, 68)}),
     shaped("takes a frame 06", {b"06": (3, 127)}),
     shaped("takes a frame 00", {b"00": (3, 127)}),
-    wrong("has no frame 02", frame=pattern({first: sizes for first, sizes in FOLLOWING.items() if first != b"02"})),
-    wrong("has no frame 03", frame=pattern({first: sizes for first, sizes in FOLLOWING.items() if first != b"03"})),
-    wrong("has no frame 04", frame=pattern({first: sizes for first, sizes in FOLLOWING.items() if first != b"04"})),
+    *(wrong(f"has no frame {first.decode()}", frame=pattern(without(first))) for first in FOLLOWING),
     wrong(
         "takes odd digits",
         is_frame=lambda call, line: Converter.is_frame(call, line) or Converter.is_frame(call, line[:-1] + b"00"),
@@ -101,12 +110,6 @@ WRONG_FRAMES = (
     wrong("passes empty lines", is_frame=lambda call, line: not line or Converter.is_frame(call, line)),
     wrong("passes lines that are no frames", is_frame=lambda call, line: True),
 )
-
-
-def small_pool(line):
-    """Whether the pool of an event, if it is one, is below 32."""
-    place = {b"01": 4, b"05": 6}.get(line[:2])
-    return place is None or int(line[place : place + 2], 16) < 32
 
 
 # ---- lines and their ends
@@ -349,12 +352,4 @@ WRONG_ANSWERS = (
     *(renumbered(number, other) for number in (16, 43, 46) for other in (0, 16, 43, 46) if number != other),
 )
 
-FAMILIES = {
-    "what a line becomes": WRONG_LINES,
-    "what a frame is": WRONG_FRAMES,
-    "lines and their ends": WRONG_ENDS,
-    "what is turned away": WRONG_REFUSALS,
-    "room": WRONG_ROOM,
-    "the answer": WRONG_ANSWERS,
-}
-WRONG = [version for family in FAMILIES.values() for version in family]
+WRONG = (*WRONG_LINES, *WRONG_FRAMES, *WRONG_ENDS, *WRONG_REFUSALS, *WRONG_ROOM, *WRONG_ANSWERS)
