@@ -1,6 +1,6 @@
 """What the commands in bin/ build before they run: the bench program, and over the static library the health tests'
-program, one that makes calls with a list of quotas and one that converts call logs. rt proves whatever has changed; that
-takes minutes, and standard error says how far it is."""
+program, one that makes calls with a list of quotas and one that converts call logs. rt proves whatever has changed;
+that takes minutes, and standard error says how far it is."""
 import contextlib
 import fcntl
 import hashlib
