@@ -21,9 +21,9 @@
 #include <time.h>
 #include <unistd.h>
 
-/* A line becomes at most two characters longer. The shortest event, 6 characters, becomes 8: so 4/3 of a piece are
-   always room enough, and FORTUNA_NO_ROOM does not come. */
-enum { PIECE = 65536, ROOM = PIECE + PIECE / 3 };
+/* A line becomes at most two characters longer. The shortest event, 6 characters, becomes 8: so 4/3 of a piece, rounded
+   up, are always room enough, and FORTUNA_NO_ROOM does not come. */
+enum { PIECE = 65536, ROOM = PIECE + (PIECE + 2) / 3 };
 
 enum { QUIET = 5, EVERY = 10 }; /* seconds before a terminal is told how far the work is, and from then on */
 

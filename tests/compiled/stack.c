@@ -213,24 +213,6 @@ static void metered_event(void)
         fortuna_metered_event(&state, quotas, records, SOURCE, 3, data, length);
 }
 
-/* Logs that are converted whole and logs with a line that is refused by each number, either way. */
-static void convert(void)
-{
-    static const char *const logs[] = {
-        "",
-        "0G\n",
-        "05038403A1\n",
-        "010703A1B2\n05000703A1B2\n02000000000010\n0300000000\n0400000000",
-    };
-    for (size_t i = 0; i < sizeof logs / sizeof *logs; i++) {
-        const uint8_t *log = (const uint8_t *)logs[i];
-        for (int wide = 0; wide < 2; wide++) {
-            fortuna_convert(log, strlen(logs[i]), wide, out, 0);
-            fortuna_convert(log, strlen(logs[i]), wide, out, ROOM);
-        }
-    }
-}
-
 static void add_line(const char *start, int count, int byte)
 {
     line_count += (size_t)sprintf(lines + line_count, "%s", start);
@@ -387,7 +369,6 @@ static const struct {
     {"fortuna_ctr_drbg_generate", drbg_seeded, drbg_block_with, ACCEPTED},
     {"fortuna_ctr_drbg_generate", drbg_seeded, drbg_most, ACCEPTED},
     {"fortuna_ctr_drbg_generate", drbg_seeded, drbg_most_with, ACCEPTED},
-    {"fortuna_convert", seeded, convert, APART},
 };
 enum { CASES = sizeof cases / sizeof *cases };
 

@@ -96,6 +96,12 @@ def most_room(log):
     return len(log) + 2 * (log.count(LF) + 1)
 
 
+def convert(log, wide, room):
+    """The number, the refused line, and the bytes written, with so much room."""
+    found = Converter(log, wide, bytes(room)).answer()
+    return found.number, found.line, found.buffer[: found.written]
+
+
 def converted(log, wide):
     """The answer with all room, and the bytes written."""
     found = Converter(log, wide, bytes(most_room(log))).answer()
