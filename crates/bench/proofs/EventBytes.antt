@@ -1,13 +1,13 @@
 -- Which bytes are event frames of either kind.
 -- Assumes nothing.
 use mathlib.Core.Path.{_≡_, refl, sym, ap, _∙_}
-use mathlib.Core.Bool.{true, false, cond}
+use mathlib.Core.Bool.{false, cond}
 use mathlib.Core.List.{List, [], _∷_}
 use Prim.Native.Nat.{ℕ, _+_, _*_, _≤_, _<_}
 use native.Mathlib.Omega.{arith}
 use lib.Dec.{eqb, leb}
 use lib.ListN.{length, getD}
-use borrow.Author.Tests.{leb-true, le-leb, eqb-true}
+use borrow.Author.Tests.{leb-true, eqb-true}
 use Rattle.laws.proofs.Cases.{by-test, split}
 use Rattle.bench.specs.Frames.{bigEndian16, eventFrame, requestFrame, updateFrame, writeFrame, wideEventFrame, frameOf}
 use Rattle.bench.specs.declared.frame.Frame.{Frame}

@@ -1,25 +1,24 @@
 -- The characters of a line that is an event frame of either kind, and the frame that such characters are.
 -- Assumes nothing.
 use mathlib.Core.Path.{_≡_, refl, sym, ap, subst, _∙_}
-use mathlib.Core.Bool.{Bool, true, false, cond, _&&_, true≢false, false≢true}
+use mathlib.Core.Bool.{true, false, cond, _&&_, true≢false}
 use mathlib.Core.List.{List, [], _∷_}
 use mathlib.Core.Option.{some}
 use Prim.Native.Nat.{ℕ, zero, suc, _+_, _*_, _/_, _%_, _≤_, _<_}
 use native.Mathlib.Omega.{arith}
-use lib.Dec.{eqb, leb, ltb}
+use lib.Dec.{eqb, ltb}
 use lib.ListN.{length, getD, drop}
-use borrow.Author.Tests.{leb-true, le-leb, lt-leb, eqb-true, eq-eqb, ltb-true, ltb-false}
+use borrow.Author.Tests.{le-leb, lt-leb, eqb-true, eq-eqb, ltb-true, ltb-false}
 use Rattle.laws.proofs.Cases.{by-test, both}
 use Rattle.laws.proofs.Tables.{agree-at}
 use Rattle.pools.specs.Calls.{event}
 use Rattle.bench.specs.Hexadecimal.{isDecimal, isCapital, isDigit, digitValue, digitCharacter, decodeHex, allDigits, isHex}
 use Rattle.bench.specs.Frames.{isWide, maxLine, frameOf, frameOfText, headerLength}
 use Rattle.bench.specs.Lines.{callOf, lineCall}
-use Rattle.bench.specs.declared.frame.Frame.{Frame}
-use Rattle.bench.specs.declared.frame.Frame.the-variants.{Event, WideEvent, Invalid}
-use Rattle.bench.proofs.Hexadecimal.{digit-small, length-decode}
-use Rattle.bench.proofs.Texts.{Readable, readable, hex-frame}
-use Rattle.bench.proofs.EventBytes.{EventBytes, WideBytes, event-bytes, wide-bytes, frame-one, frame-five, invalid-event, invalid-wide}
+use Rattle.bench.specs.declared.frame.Frame.the-variants.{Event, WideEvent}
+use Rattle.bench.proofs.Hexadecimal.{digit-small}
+use Rattle.bench.proofs.Texts.{readable, hex-frame}
+use Rattle.bench.proofs.EventBytes.{event-bytes, wide-bytes, frame-one, frame-five, invalid-event, invalid-wide}
 
 -- ---- digits
 

@@ -1,18 +1,17 @@
 -- From what the parts of a step leave to the step.
 -- Assumes nothing.
 use mathlib.Core.Path.{_≡_, refl, sym, ap, _∙_}
-use mathlib.Core.Bool.{Bool, true, false, cond, _||_}
+use mathlib.Core.Bool.{true, false}
 use mathlib.Core.List.{List, [], _∷_, append-nil}
-use Prim.Native.Nat.{ℕ, suc, _+_, _-_, _<_, _≤_, zero-le}
+use Prim.Native.Nat.{ℕ, _+_, _-_, _<_, _≤_, zero-le}
 use native.Mathlib.Omega.{arith}
-use lib.Dec.{eqb}
 use lib.ListN.{length, take, drop, length-take, length-drop}
 use borrow.Author.Tests.{lt-ltb, le-ltb}
 use Rattle.laws.specs.Lists.{overwrite}
 use Rattle.laws.proofs.Copy.{part-end}
 use Rattle.pools.specs.declared.Fortuna.{Fortuna}
 use Rattle.bench.specs.Buffers.{appended, heldAfter}
-use Rattle.bench.specs.Lines.{lineFeed, lineOf, Prints}
+use Rattle.bench.specs.Lines.{lineOf, Prints}
 use Rattle.bench.specs.Input.{lastLine, printedFrom, firstLine, hasLineFeed, usedBy, Session, heldLine, extended, ended, stepSession, stepPrinted, finishPrinted, session, Steps, Finishes}
 use Rattle.bench.specs.declared.line.LineOutcome.{LineOutcome}
 use Rattle.bench.specs.declared.input.StepOutcome.{StepOutcome}

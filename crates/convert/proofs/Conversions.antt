@@ -1,23 +1,21 @@
 -- The work line by line: what a line's number says, what is written of a list of lines, and the first refused one.
 -- Assumes nothing.
-use mathlib.Core.Path.{_≡_, refl, sym, ap, _∙_}
-use mathlib.Core.Bool.{Bool, true, false, cond}
+use mathlib.Core.Path.{_≡_, refl, sym, _∙_}
+use mathlib.Core.Bool.{Bool}
 use mathlib.Core.List.{List, [], _∷_, _++_, append-assoc}
 use mathlib.Core.Logic.{_⊎_, inl, inr}
-use Prim.Native.Nat.{ℕ, zero, suc, _+_, _-_, _≤_, _<_}
+use Prim.Native.Nat.{ℕ, suc, _+_, _-_, _≤_, _<_}
 use native.Mathlib.Omega.{arith}
 use lib.Dec.{eqb, ltb}
-use lib.ListN.{length, take, getD, length-append}
+use lib.ListN.{length, length-append}
 use borrow.Author.Tests.{eqb-true, eqb-false, eq-eqb, ne-eqb, ltb-true, ltb-false, lt-ltb, le-ltb}
-use Rattle.laws.specs.Lists.{joined}
 use Rattle.laws.specs.Refusals.{refuse}
 use Rattle.laws.proofs.Cases.{by-test}
 use Rattle.laws.proofs.Refusals.{refused, not-refused}
 use Rattle.pools.specs.Refusals.{andThen}
-use Rattle.bench.specs.Frames.{frameOfText}
 use Rattle.convert.specs.Texts.{lineNumber, converted}
-use Rattle.convert.specs.Logs.{Line, lineWith, endOf, wholeLine, convertedLine, linesOf, writtenOf, refusalOf, Conversion, finished, after, convertedLines, conversion}
-use Rattle.convert.specs.Statements.{Stopped, FirstRefused, FirstRefusedLaw, OrderLaw, OrderLaws}
+use Rattle.convert.specs.Logs.{Line, endOf, wholeLine, convertedLine, writtenOf, refusalOf, Conversion, finished, after, convertedLines}
+use Rattle.convert.specs.Statements.{OrderLaws}
 use Rattle.convert.proofs.Lines.{stray-line, large-line, line-numbers}
 
 -- ---- the number of a line

@@ -1,16 +1,16 @@
 -- The lines that are written, and the first refused one.
 -- Assumes nothing.
-use mathlib.Core.Path.{_≡_, refl, sym, ap, _∙_}
+use mathlib.Core.Path.{_≡_, refl, ap, _∙_}
 use mathlib.Core.Bool.{Bool, false}
 use mathlib.Core.List.{List, [], _∷_, _++_}
 use mathlib.Core.Logic.{_⊎_, inl, inr}
-use Prim.Native.Nat.{ℕ, zero, suc, _+_, _-_, _≤_, _<_}
+use Prim.Native.Nat.{ℕ, zero, suc, _+_, _-_, _<_}
 use native.Mathlib.Omega.{arith}
 use lib.ListN.{length, take, getD, length-append}
 use lib.Seq.{take-all}
 use Rattle.laws.specs.Lists.{joined}
 use Rattle.convert.specs.Logs.{Line, lineWith, linesOf, writtenOf, refusalOf, Conversion, finished, after, convertedLines, conversion}
-use Rattle.convert.specs.Statements.{Stopped, FirstRefused, FirstRefusedLaw}
+use Rattle.convert.specs.Statements.{Stopped, FirstRefusedLaw}
 use Rattle.convert.proofs.Conversions.{no-lines, either, fits}
 
 -- past the end of a list

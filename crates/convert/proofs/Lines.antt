@@ -18,7 +18,7 @@ use Rattle.bench.proofs.EventTexts.{EventText, WideText, event-text, wide-text,
 use Rattle.convert.specs.Texts.{maxNarrowSource, isWanted, actionOf, widened, narrowed, carriedOut, actionNumber, lineNumber, converted}
 use Rattle.convert.specs.declared.action.Action.{Action}
 use Rattle.convert.specs.declared.action.Action.the-variants.{Keep, Widen, Narrow, Stray, Large}
-use Rattle.convert.specs.Statements.{LineLaw, LineLaws}
+use Rattle.convert.specs.Statements.{LineLaws}
 
 -- ---- by the frame
 

@@ -2,7 +2,7 @@
 -- Assumes nothing.
 use mathlib.Core.Path.{_≡_, refl, sym, ap, ap₂, _∙_}
 use mathlib.Core.Bool.{Bool, true, false, cond, true≢false}
-use mathlib.Core.List.{List, [], _∷_, _++_, map, append-assoc, append-nil}
+use mathlib.Core.List.{List, [], _∷_, _++_, map, append-nil}
 use mathlib.Core.Logic.{_⊎_, inl, inr}
 use Prim.Native.Nat.{ℕ, zero, suc, _≤_, _<_}
 use native.Mathlib.Omega.{arith}
@@ -11,7 +11,7 @@ use lib.ListN.{length, drop, length-drop}
 use lib.Seq.{append-snoc, drop-length}
 use borrow.Author.Tests.{ltb-true, ltb-false}
 use Rattle.laws.specs.Lists.{joined}
-use Rattle.laws.proofs.Cases.{by-test, split}
+use Rattle.laws.proofs.Cases.{by-test}
 use Rattle.bench.specs.Lines.{lineFeed}
 use Rattle.bench.specs.Input.{lines, firstLine, hasLineFeed, usedBy}
 use Rattle.bench.proofs.Lines.{lines-law, feedless-more, first-feedless, first-ended, first-all, used-all, used-more}

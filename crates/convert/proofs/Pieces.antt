@@ -1,20 +1,19 @@
 -- A log that is cut after its lines and converted piece by piece.
 -- Assumes nothing.
 use mathlib.Core.Path.{_≡_, refl, sym, ap, ap₂, _∙_}
-use mathlib.Core.Bool.{Bool, true, false, cond}
+use mathlib.Core.Bool.{Bool}
 use mathlib.Core.List.{List, [], _∷_, _++_, append-nil}
-use Prim.Native.Nat.{ℕ, zero, suc, _+_, _-_, _≤_, _<_}
+use Prim.Native.Nat.{ℕ, suc, _+_, _-_, _≤_}
 use native.Mathlib.Omega.{arith}
 use lib.Dec.{eqb}
-use lib.ListN.{length, getD}
+use lib.ListN.{length}
 use borrow.Author.Tests.{eqb-true, eqb-false, eq-eqb, ne-eqb}
 use Rattle.laws.specs.Lists.{joined}
 use Rattle.laws.proofs.Cases.{by-test}
-use Rattle.bench.specs.Lines.{lineFeed}
 use Rattle.convert.specs.Logs.{Line, linesOf, writtenOf, refusalOf, Conversion, finished, after, convertedLines, conversion, counted, inPieces}
 use Rattle.convert.specs.Statements.{CutAfterLines, PiecesLaw}
 use Rattle.convert.proofs.LogLines.{lines-none, lines-append}
-use Rattle.convert.proofs.Conversions.{goes-on, stops, either, no-lines, after-after, number-after, length-after}
+use Rattle.convert.proofs.Conversions.{goes-on, stops, no-lines, after-after, number-after, length-after}
 use Rattle.convert.proofs.Rooms.{other-room}
 
 -- ---- line numbers
@@ -73,7 +72,8 @@ module _ (wide : Bool) (ms : List Line) where
       → convertedLines wide room k (ls ++ ms) ≡ followed room (k + length ls) (convertedLines wide room k ls)
   goes-over room k [] e = sym (followed-none room k) ∙ ap (followed room (k + 0)) (sym (no-lines wide room k))
   goes-over room k (l ∷ ls) e =
-      by-test (eqb (refusalOf wide room l) 0) (convertedLines wide room k (l ∷ (ls ++ ms)) ≡ followed room (k + suc (length ls)) (convertedLines wide room k (l ∷ ls)))
+      by-test (eqb (refusalOf wide room l) 0)
+      (convertedLines wide room k (l ∷ (ls ++ ms)) ≡ followed room (k + suc (length ls)) (convertedLines wide room k (l ∷ ls)))
       (λ t.
       let a = eqb-true (refusalOf wide room l) 0 t in
       let less = room - length (writtenOf wide l) in
@@ -177,7 +177,8 @@ module _ (wide : Bool) (room before : ℕ) (piece : List ℕ) (pieces : List (Li
     stop s =
         let end = pieces-stop s in
         let number : both .number ≡ here .number = ap (λ (c : Conversion). c .number) end ∙ counted-number before here in
-        let size : length (both .written) ≡ length (here .written) = ap (λ (c : Conversion). length (c .written)) end ∙ ap length (counted-written before here) in
+        let size : length (both .written) ≡ length (here .written) =
+        ap (λ (c : Conversion). length (c .written)) end ∙ ap length (counted-written before here) in
         let is = here-is whole (λ z. n (number ∙ z)) (omega (arith, h, size)) in
         let some : convertedLines wide whole (before + 1) (linesOf piece) .number ≡ 0 → ⊥ =
         λ z. s (sym (ap (λ (c : Conversion). c .number) is ∙ counted-number before here) ∙ z) in

@@ -2,9 +2,9 @@
 -- Assumes nothing.
 use mathlib.Core.Path.{_≡_, refl, sym, ap, _∙_}
 use mathlib.Core.Bool.{Bool, true, false}
-use mathlib.Core.List.{List, [], _∷_, _++_}
+use mathlib.Core.List.{List, [], _∷_}
 use mathlib.Core.Logic.{_⊎_, inl, inr}
-use Prim.Native.Nat.{ℕ, zero, suc, _+_, _-_, _*_, _/_, _≤_, _<_}
+use Prim.Native.Nat.{ℕ, suc, _+_, _-_, _*_, _≤_}
 use native.Mathlib.Omega.{arith}
 use lib.Dec.{ltb}
 use lib.ListN.{length, length-append}
@@ -16,11 +16,11 @@ use Rattle.bench.specs.declared.frame.Frame.{Frame}
 use Rattle.bench.specs.declared.frame.Frame.the-variants.{Event, Request, Update, Write, WideEvent, Invalid}
 use Rattle.bench.proofs.Hexadecimal.{length-decode}
 use Rattle.convert.specs.Texts.{maxNarrowSource, isWanted, lineNumber, converted}
-use Rattle.convert.specs.Logs.{Line, lineWith, endOf, wholeLine, linesOf, convertedLine, writtenOf, refusalOf, Conversion, finished, after, convertedLines, conversion}
+use Rattle.convert.specs.Logs.{Line, endOf, wholeLine, linesOf, writtenOf, refusalOf, Conversion, after, convertedLines, conversion}
 use Rattle.convert.specs.Statements.{EnoughRoomLaw}
 use Rattle.convert.proofs.Lines.{line-laws, shape, wider-text, wide-shape, narrower-text, large-number, zeros, stray-line}
 use Rattle.convert.proofs.LogLines.{lines-cut}
-use Rattle.convert.proofs.Conversions.{Accepted, RoomRefused, TextRefused, which, accepted, no-refusal, refusal-text, goes-on, stops, either, no-lines, number-after, length-after, text-not-46, length-written}
+use Rattle.convert.proofs.Conversions.{Accepted, RoomRefused, TextRefused, which, accepted, no-refusal, refusal-text, goes-on, stops, no-lines, number-after, length-after, text-not-46, length-written}
 
 -- ---- how a line grows
 

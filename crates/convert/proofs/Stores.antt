@@ -1,8 +1,8 @@
 -- A text stored in parts, and its end.
 -- Assumes nothing.
 use mathlib.Core.Path.{_≡_, refl, sym, ap, _∙_}
-use mathlib.Core.Bool.{Bool, true, false, cond}
-use mathlib.Core.List.{List, [], _∷_, _++_, append-nil, append-assoc}
+use mathlib.Core.Bool.{Bool, true, false}
+use mathlib.Core.List.{List, [], _++_, append-nil, append-assoc}
 use Prim.Native.Nat.{ℕ, _+_, _-_, _≤_, _<_}
 use native.Mathlib.Nat.{add-zero, le-of-eq}
 use native.Mathlib.Numerals.{add-one}
@@ -62,33 +62,40 @@ module _ (out front rest : List ℕ) (ended : Bool) where
   abbrev whole : List ℕ
   whole = (front ++ rest) ++ endOf ended
 
-  length-whole : length whole ≡ length front + length rest + length (endOf ended)
+  -- how many characters stand before the end
+  abbrev before : ℕ
+  before = length front + length rest
+
+  length-whole : length whole ≡ before + length (endOf ended)
   length-whole = rw (length-append, length-append)
 
-  pub put-nothing : (size : ℕ) → size ≡ length (endOf ended) → length out < length front + length rest + size
+  pub put-nothing : (size : ℕ) → size ≡ length (endOf ended) → length out < before + size
       → StoresText whole (record { answer = NoRoom; written = 0 }) out out
   put-nothing size e h =
       let t : ltb (length out) (length whole) ≡ true = lt-ltb (length out) (length whole) (omega (arith, length-whole)) in
       rw t (record { number-is = unfold number in refl; written-is = refl; buffer-is = sym (overwrite-none out) })
 
-  pub put-all : (size : ℕ) (d d′ : List ℕ) → size ≡ length (endOf ended) → length front + length rest + size ≤ length out
-      → PartsStored front rest out d → EndStored ended (length front + length rest) d d′
-      → StoresText whole (record { answer = Converted; written = length front + length rest + size }) out d′
-  put-all size d d′ e h p q =
-      let t : ltb (length out) (length whole) ≡ false = le-ltb (length out) (length whole) (omega (arith, length-whole)) in
-      rw t (record { number-is = unfold number in refl; written-is = omega (arith, length-whole); buffer-is = stored })
-    where
-      front-is : take (length front + length rest) d ≡ front ++ rest
-      front-is = ap (take (length front + length rest)) (p ∙ sym (append-assoc front rest _)) ∙ take-at (front ++ rest) _ (length front + length rest) (length-append front rest)
+  -- d is the buffer with the parts in it, and d′ with the end too
+  module _ (d d′ : List ℕ) (p : PartsStored front rest out d) (q : EndStored ended before d d′) where
+    parts : d ≡ (front ++ rest) ++ drop before out
+    parts = p ∙ sym (append-assoc front rest (drop before out))
 
-      back-is : drop (length front + length rest + length (endOf ended)) d ≡ drop (length front + length rest + length (endOf ended)) out
-      back-is =
-          sym (drop-drop (length (endOf ended)) (length front + length rest) d)
-          ∙ ap (drop (length (endOf ended))) (ap (drop (length front + length rest)) (p ∙ sym (append-assoc front rest _)) ∙ drop-at (front ++ rest) _ (length front + length rest) (length-append front rest))
-          ∙ drop-drop (length (endOf ended)) (length front + length rest) out
+    front-is : take before d ≡ front ++ rest
+    front-is = ap (take before) parts ∙ take-at (front ++ rest) _ before (length-append front rest)
 
-      stored : d′ ≡ overwrite out whole
-      stored =
-          q ∙ rw (front-is, back-is)
-          (sym (append-assoc (front ++ rest) (endOf ended) _)
-          ∙ sym (overwrite-fits out whole (omega (arith, length-whole)) ∙ rw length-whole))
+    behind-is : drop before d ≡ drop before out
+    behind-is = ap (drop before) parts ∙ drop-at (front ++ rest) _ before (length-append front rest)
+
+    back-is : drop (before + length (endOf ended)) d ≡ drop (before + length (endOf ended)) out
+    back-is =
+        sym (drop-drop (length (endOf ended)) before d) ∙ ap (drop (length (endOf ended))) behind-is
+        ∙ drop-drop (length (endOf ended)) before out
+
+    pub put-all : (size : ℕ) → size ≡ length (endOf ended) → before + size ≤ length out
+        → StoresText whole (record { answer = Converted; written = before + size }) out d′
+    put-all size e h =
+        let t : ltb (length out) (length whole) ≡ false = le-ltb (length out) (length whole) (omega (arith, length-whole)) in
+        let stored : d′ ≡ overwrite out whole =
+        q ∙ rw (front-is, back-is)
+        (sym (append-assoc (front ++ rest) (endOf ended) _) ∙ sym (overwrite-fits out whole (omega (arith, length-whole)) ∙ rw length-whole)) in
+        rw t (record { number-is = unfold number in refl; written-is = omega (arith, length-whole); buffer-is = stored })

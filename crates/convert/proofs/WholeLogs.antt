@@ -2,7 +2,7 @@
 -- Assumes nothing.
 use mathlib.Core.Path.{_≡_, refl, sym, ap, ap₂, _∙_}
 use mathlib.Core.Bool.{Bool, true, false, true≢false}
-use mathlib.Core.List.{List, [], _∷_, _++_, map, append-nil}
+use mathlib.Core.List.{List, [], _∷_, _++_, map}
 use mathlib.Core.Logic.{_⊎_, inl, inr}
 use mathlib.Core.Option.{Option}
 use Prim.Native.Nat.{ℕ, zero, suc, _+_, _-_, _≤_, _<_}
@@ -19,7 +19,7 @@ use Rattle.bench.specs.declared.frame.Frame.the-variants.{Event, Request, Updat
 use Rattle.bench.proofs.Model as Model
 use Rattle.bench.proofs.Texts.{frame-characters, frame-feedless}
 use Rattle.convert.specs.Texts.{isWanted, lineNumber, converted}
-use Rattle.convert.specs.Logs.{Line, lineWith, wholeLine, linesOf, convertedLine, writtenOf, refusalOf, Conversion, finished, after, convertedLines, conversion}
+use Rattle.convert.specs.Logs.{Line, lineWith, wholeLine, linesOf, convertedLine, writtenOf, finished, after, convertedLines, conversion}
 use Rattle.convert.specs.Statements.{SameAnswers, AllWanted, OnlyWanted, Unchanged, Trip}
 use Rattle.convert.proofs.Lines.{line-laws}
 use Rattle.convert.proofs.LogLines.{Proper, proper-lines, lines-joined, lines-cut}

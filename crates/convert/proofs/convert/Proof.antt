@@ -55,7 +55,8 @@ same-length c =
     let x = test .before .loop in
     let a = test .before .before .before .before .args in
     let refused = eqb-false _ 0 (sym (asked .is-converted .ensures) ∙ not-true _ (c .if1 .taken)) in
-    walk-kept (a .wide) (a .log .now) (a .out .now) (x .out) (x .at) (x .line) (x .written) (x .inv) (test .loop-test .taken) _ _ (line-done .convert-first .ensures) refused
+    walk-kept (a .wide) (a .log .now) (a .out .now) (x .out) (x .at) (x .line) (x .written) (x .inv) (test .loop-test .taken) _ _
+    (line-done .convert-first .ensures) refused
 
 returns : tie.Need-returns Inv-loop μ-loop
 returns c =
@@ -65,7 +66,8 @@ returns c =
     let x = test .before .loop in
     let a = test .before .before .before .before .args in
     let refused = eqb-false _ 0 (sym (asked .is-converted .ensures) ∙ not-true _ (c .if1 .taken)) in
-    walk-stops (a .wide) (a .log .now) (a .out .now) (x .out) (x .at) (x .line) (x .written) (x .inv) (test .loop-test .taken) _ _ (line-done .convert-first .ensures) refused
+    walk-stops (a .wide) (a .log .now) (a .out .now) (x .out) (x .at) (x .line) (x .written) (x .inv) (test .loop-test .taken) _ _
+    (line-done .convert-first .ensures) refused
 
 add-written : tie.Need-add-written Inv-loop μ-loop
 add-written c =
@@ -75,7 +77,8 @@ add-written c =
     let x = test .before .loop in
     let a = test .before .before .before .before .args in
     let taken = eqb-true _ 0 (sym (asked .is-converted .ensures) ∙ not-false _ (c .before .if1 .left)) in
-    let w = walk-on (a .wide) (a .log .now) (a .out .now) (x .out) (x .at) (x .line) (x .written) (x .inv) (test .loop-test .taken) _ _ (line-done .convert-first .ensures) taken in
+    let w = walk-on (a .wide) (a .log .now) (a .out .now) (x .out) (x .at) (x .line) (x .written) (x .inv) (test .loop-test .taken) _ _
+    (line-done .convert-first .ensures) taken in
     omega (arith, w .room, fits (test .before .before .before .before))
 
 add-at : tie.Need-add-at Inv-loop μ-loop
@@ -85,7 +88,8 @@ add-at c =
     let test = line-done .before .before .before in
     let x = test .before .loop in
     let a = test .before .before .before .before .args in
-    let within = at-within (a .wide) (a .log .now) (a .out .now) (x .out) (x .at) (x .line) (x .written) (x .inv) (test .loop-test .taken) _ _ (line-done .convert-first .ensures) in
+    let within = at-within (a .wide) (a .log .now) (a .out .now) (x .out) (x .at) (x .line) (x .written) (x .inv) (test .loop-test .taken) _ _
+    (line-done .convert-first .ensures) in
     omega (arith, within)
 
 add-line : tie.Need-add-line Inv-loop μ-loop
@@ -101,8 +105,10 @@ loop-less c =
     let test = line-done .before .before .before in
     let x = test .before .loop in
     let a = test .before .before .before .before .args in
-    let within = at-within (a .wide) (a .log .now) (a .out .now) (x .out) (x .at) (x .line) (x .written) (x .inv) (test .loop-test .taken) _ _ (line-done .convert-first .ensures) in
-    let some = used-some (a .wide) (a .log .now) (a .out .now) (x .out) (x .at) (x .line) (x .written) (x .inv) (test .loop-test .taken) _ _ (line-done .convert-first .ensures) in
+    let within = at-within (a .wide) (a .log .now) (a .out .now) (x .out) (x .at) (x .line) (x .written) (x .inv) (test .loop-test .taken) _ _
+    (line-done .convert-first .ensures) in
+    let some = used-some (a .wide) (a .log .now) (a .out .now) (x .out) (x .at) (x .line) (x .written) (x .inv) (test .loop-test .taken) _ _
+    (line-done .convert-first .ensures) in
     omega (arith, within, some)
 
 loop-again : tie.Need-loop-again Inv-loop μ-loop
@@ -113,7 +119,8 @@ loop-again c =
     let x = test .before .loop in
     let a = test .before .before .before .before .args in
     let taken = eqb-true _ 0 (sym (asked .is-converted .ensures) ∙ not-false _ (c .before .before .if1 .left)) in
-    walk-on (a .wide) (a .log .now) (a .out .now) (x .out) (x .at) (x .line) (x .written) (x .inv) (test .loop-test .taken) _ _ (line-done .convert-first .ensures) taken
+    walk-on (a .wide) (a .log .now) (a .out .now) (x .out) (x .at) (x .line) (x .written) (x .inv) (test .loop-test .taken) _ _
+    (line-done .convert-first .ensures) taken
 
 same-length-2 : tie.Need-same-length-2 Inv-loop μ-loop
 same-length-2 c = c .before .loop .inv .kept

@@ -1,7 +1,6 @@
 -- `convert::line::end_size` meets its contract.
 -- Assumes nothing.
 use Rattle.convert.specs.Logs.{endOf}
-use borrow.Author.Needs.{needs}
 use Rattle.convert.proofs.line.end_size.Statement.{statement}
 use Rattle.convert.proofs.line.end_size.Tie as tie
 

@@ -37,8 +37,8 @@ returns-2 c =
     let fits = stored .before .before in
     let measured = fits .before in
     let a = measured .before .before .before .before .args in
-    put-all (a .out .now) (a .front .now) (a .rest .now) (a .ended) _ _ _ (measured .end-size .ensures) (fits .if1 .left)
-    (stored .store-parts .ensures) (ended .store-end .ensures)
+    put-all (a .out .now) (a .front .now) (a .rest .now) (a .ended) _ _ (stored .store-parts .ensures) (ended .store-end .ensures)
+    _ (measured .end-size .ensures) (fits .if1 .left)
 
 pub put-spec : {M : Type 1} → statement M
 put-spec =

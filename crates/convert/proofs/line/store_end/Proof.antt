@@ -1,7 +1,6 @@
 -- `convert::line::store_end` meets its contract.
 -- Assumes nothing.
 use Rattle.convert.proofs.Stores.{end-room, end-stored, no-end}
-use Rattle.convert.specs.Logs.{endOf}
 use borrow.Author.Needs.{needs}
 use Rattle.convert.proofs.line.store_end.Statement.{statement}
 use Rattle.convert.proofs.line.store_end.Tie as tie
