@@ -49,7 +49,7 @@
        fortuna_metered_random_below    53,248
        fortuna_metered_shuffle         64,512
        fortuna_log                    270,336
-       fortuna_convert                  1,536
+       fortuna_convert                    512
        fortuna_health_new                 256
        fortuna_health_test                256
        fortuna_ctr_drbg_new               256
