@@ -22,6 +22,7 @@ eventKind (Write clock) = 0
 eventKind (WideEvent source pool) = 5
 eventKind Invalid = 0
 
+-- the bytes of frame 01
 pub record EventBytes (bytes : List ℕ) (source pool : ℕ) : Type 0 where
   pub rest : List ℕ
   pub is : bytes ≡ 1 ∷ rest
@@ -29,6 +30,7 @@ pub record EventBytes (bytes : List ℕ) (source pool : ℕ) : Type 0 where
   pub source-is : source ≡ getD rest 0 0
   pub pool-is : pool ≡ getD rest 1 0
 
+-- the bytes of frame 05
 pub record WideBytes (bytes : List ℕ) (source pool : ℕ) : Type 0 where
   pub rest : List ℕ
   pub is : bytes ≡ 5 ∷ rest

@@ -37,7 +37,9 @@ digit-is c h =
     (λ t. absurd (true≢false (sym h ∙ above-digits c (ltb-false c 71 t))))
   where
     table : (c : ℕ) → c < 71 → cond (isDigit c) (digitCharacter (digitValue c)) c ≡ c
-    table = unfold isDigit isDecimal isCapital digitValue digitCharacter in agree-at (λ c. cond (isDigit c) (digitCharacter (digitValue c)) c) (λ c. c) 71 tt
+    table =
+        unfold isDigit isDecimal isCapital digitValue digitCharacter in
+        agree-at (λ c. cond (isDigit c) (digitCharacter (digitValue c)) c) (λ c. c) 71 tt
 
 -- two digits by the byte that they stand for
 two-digits : (c d b : ℕ) → isDigit c ≡ true → isDigit d ≡ true → 16 * digitValue c + digitValue d ≡ b
@@ -55,7 +57,7 @@ byte-small (c ∷ []) i = omega arith
 byte-small (c ∷ d ∷ text) zero = omega (arith, digit-small c, digit-small d)
 byte-small (c ∷ d ∷ text) (suc i) = byte-small text i
 
--- ---- the characters
+-- ---- the characters: 48 49 is 01, and 48 53 is 05
 
 -- what comes after the first characters: digits, an even number of them, as many as a line may have
 pub record Fields (t : List ℕ) : Type 0 where
@@ -64,6 +66,7 @@ pub record Fields (t : List ℕ) : Type 0 where
   pub short : length t ≤ 254
   pub long : 2 ≤ length (decodeHex t)
 
+-- a line of frame 01
 pub record EventText (text : List ℕ) (source pool : ℕ) : Type 0 where
   pub rest : List ℕ
   pub is : text ≡ 48 ∷ 49 ∷ rest
@@ -71,6 +74,7 @@ pub record EventText (text : List ℕ) (source pool : ℕ) : Type 0 where
   pub source-is : source ≡ getD (decodeHex rest) 0 0
   pub pool-is : pool ≡ getD (decodeHex rest) 1 0
 
+-- a line of frame 05, with the two digits of the source's first byte apart
 pub record WideText (text : List ℕ) (source pool : ℕ) : Type 0 where
   pub high : ℕ
   pub low : ℕ

@@ -11,11 +11,11 @@ use Rattle.bench.specs.Input.{lastLine, linesAfter, lines, printedFrom, 
 use Rattle.bench.specs.Examples.{ascii, exampleInput, Examples}
 
 -- a text's lines, and a line's frame
-pub reading : Unit {0}
+unfoldable pub reading : Unit {0}
 unfolding ascii exampleInput lines linesAfter lastLine isDecimal isCapital isDigit digitValue decodeHex allDigits isHex isWide maxLine frameOfText
 reading = tt
 
-pub framing : Unit {0}
+unfoldable pub framing : Unit {0}
 unfolding headerLength bigEndian16 bigEndian32 eventFrame requestFrame updateFrame writeFrame wideEventFrame frameOf zeros callOf lineCall
 framing = tt
 

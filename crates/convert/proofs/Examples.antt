@@ -2,18 +2,10 @@
 -- Assumes nothing.
 use mathlib.Core.Path.{refl}
 use Rattle.pools.specs.Refusals.{andThen}
-use Rattle.bench.specs.Hexadecimal.{isDecimal, isCapital, isDigit, digitValue, decodeHex, allDigits, isHex}
-use Rattle.bench.specs.Frames.{bigEndian16, bigEndian32, eventFrame, requestFrame, updateFrame, writeFrame, wideEventFrame, frameOf, isWide, maxLine, frameOfText}
-use Rattle.bench.specs.Examples.{ascii}
+use Rattle.bench.proofs.Examples.{reading, framing}
 use Rattle.convert.specs.Texts.{maxNarrowSource, actionOf, widened, narrowed, carriedOut, actionNumber, lineNumber, converted}
 use Rattle.convert.specs.Logs.{endOf, wholeLine, unendedLine, linesFrom, linesOf, convertedLine, writtenOf, refusalOf, after, convertedLines, conversion, counted, inPieces}
 use Rattle.convert.specs.Examples.{eachFrame, Examples}
-
--- the frame of a line
-reading : Unit {0}
-unfolding ascii isDecimal isCapital isDigit digitValue decodeHex allDigits isHex bigEndian16 bigEndian32 eventFrame requestFrame updateFrame
-    writeFrame wideEventFrame frameOf isWide maxLine frameOfText
-reading = tt
 
 -- a line converted
 converting : Unit {0}
@@ -26,7 +18,7 @@ unfolding endOf wholeLine unendedLine linesFrom linesOf convertedLine writtenOf 
 working = tt
 
 pub examples : Examples
-unfolding reading converting working
+unfolding reading framing converting working
 examples =
     record {
       frames = (refl, refl, refl, refl);
