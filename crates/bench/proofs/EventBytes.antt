@@ -10,6 +10,7 @@ use lib.ListN.{length, getD}
 use borrow.Author.Tests.{leb-true, eqb-true}
 use Rattle.laws.proofs.Cases.{by-test, split}
 use Rattle.bench.specs.Frames.{bigEndian16, eventFrame, requestFrame, updateFrame, writeFrame, wideEventFrame, frameOf}
+use Rattle.bench.proofs.Frames.{frame-none}
 use Rattle.bench.specs.declared.frame.Frame.{Frame}
 use Rattle.bench.specs.declared.frame.Frame.the-variants.{Event, Request, Update, Write, WideEvent, Invalid}
 
@@ -81,10 +82,6 @@ not-wide kind fields n =
     (λ _. split (Other 5) (eqb kind 3) (λ _. update-other 5 (kind ∷ fields) (omega arith))
     (λ _. split (Other 5) (eqb kind 4) (λ _. write-other 5 (kind ∷ fields) (omega arith)) (λ _ e. omega arith)))))
 
-frame-empty : frameOf [] ≡ Invalid
-unfolding frameOf
-frame-empty = refl
-
 -- frame 01, and frame 05, by what comes after the first byte
 pub frame-one : (fields : List ℕ) → frameOf (1 ∷ fields) ≡ cond (leb 3 (length (1 ∷ fields))) (Event (getD fields 0 0) (getD fields 1 0)) Invalid
 unfolding frameOf eventFrame
@@ -102,7 +99,7 @@ wide-parts : (s p s′ p′ : ℕ) → WideEvent s p ≡ WideEvent s′ p′ →
 wide-parts s p s′ p′ h = (cc, cc)
 
 pub event-bytes : (bytes : List ℕ) (source pool : ℕ) → frameOf bytes ≡ Event source pool → EventBytes bytes source pool
-event-bytes [] source pool e = let z : _≡_ {A = ℕ} 0 1 = ap eventKind (sym frame-empty ∙ e) in absurd (omega arith)
+event-bytes [] source pool e = let z : _≡_ {A = ℕ} 0 1 = ap eventKind (frame-none [] refl ∙ e) in absurd (omega arith)
 event-bytes (kind ∷ fields) source pool e =
     by-test (eqb kind 1) (EventBytes (kind ∷ fields) source pool)
     (λ t.
@@ -122,7 +119,7 @@ event-bytes (kind ∷ fields) source pool e =
     (λ t. absurd (not-narrow kind fields t (ap eventKind e)))
 
 pub wide-bytes : (bytes : List ℕ) (source pool : ℕ) → frameOf bytes ≡ WideEvent source pool → WideBytes bytes source pool
-wide-bytes [] source pool e = let z : _≡_ {A = ℕ} 0 5 = ap eventKind (sym frame-empty ∙ e) in absurd (omega arith)
+wide-bytes [] source pool e = let z : _≡_ {A = ℕ} 0 5 = ap eventKind (frame-none [] refl ∙ e) in absurd (omega arith)
 wide-bytes (kind ∷ fields) source pool e =
     by-test (eqb kind 5) (WideBytes (kind ∷ fields) source pool)
     (λ t.

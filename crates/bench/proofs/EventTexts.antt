@@ -1,61 +1,23 @@
 -- The characters of a line that is an event frame of either kind, and the frame that such characters are.
 -- Assumes nothing.
 use mathlib.Core.Path.{_≡_, refl, sym, ap, subst, _∙_}
-use mathlib.Core.Bool.{true, false, cond, _&&_, true≢false}
+use mathlib.Core.Bool.{true, _&&_}
 use mathlib.Core.List.{List, [], _∷_}
 use mathlib.Core.Option.{some}
-use Prim.Native.Nat.{ℕ, zero, suc, _+_, _*_, _/_, _%_, _≤_, _<_}
+use Prim.Native.Nat.{ℕ, suc, _+_, _*_, _/_, _%_, _≤_}
 use native.Mathlib.Omega.{arith}
-use lib.Dec.{eqb, ltb}
+use lib.Dec.{eqb}
 use lib.ListN.{length, getD, drop}
-use borrow.Author.Tests.{le-leb, lt-leb, eqb-true, eq-eqb, ltb-true, ltb-false}
-use Rattle.laws.proofs.Cases.{by-test, both}
-use Rattle.laws.proofs.Tables.{agree-at}
+use borrow.Author.Tests.{le-leb, eqb-true, eq-eqb}
+use Rattle.laws.proofs.Cases.{both}
 use Rattle.pools.specs.Calls.{event}
 use Rattle.bench.specs.Hexadecimal.{isDecimal, isCapital, isDigit, digitValue, digitCharacter, decodeHex, allDigits, isHex}
 use Rattle.bench.specs.Frames.{isWide, maxLine, frameOf, frameOfText, headerLength}
 use Rattle.bench.specs.Lines.{callOf, lineCall}
 use Rattle.bench.specs.declared.frame.Frame.the-variants.{Event, WideEvent}
-use Rattle.bench.proofs.Hexadecimal.{digit-small}
+use Rattle.bench.proofs.Hexadecimal.{two-digits}
 use Rattle.bench.proofs.Texts.{readable, hex-frame}
 use Rattle.bench.proofs.EventBytes.{event-bytes, wide-bytes, frame-one, frame-five, invalid-event, invalid-wide}
-
--- ---- digits
-
-above-digits : (c : ℕ) → 71 ≤ c → isDigit c ≡ false
-unfolding isDigit isDecimal isCapital
-above-digits c h =
-    rw (le-leb 48 c (omega arith), lt-leb c 57 (omega arith), le-leb 65 c (omega arith), lt-leb c 70 (omega arith))
-
--- a digit is the character of its value
-digit-is : (c : ℕ) → isDigit c ≡ true → digitCharacter (digitValue c) ≡ c
-digit-is c h =
-    by-test (ltb c 71) (digitCharacter (digitValue c) ≡ c)
-    (λ t.
-    let a : cond (isDigit c) (digitCharacter (digitValue c)) c ≡ c = table c (ltb-true c 71 t) in
-    rw h at a)
-    (λ t. absurd (true≢false (sym h ∙ above-digits c (ltb-false c 71 t))))
-  where
-    table : (c : ℕ) → c < 71 → cond (isDigit c) (digitCharacter (digitValue c)) c ≡ c
-    table =
-        unfold isDigit isDecimal isCapital digitValue digitCharacter in
-        agree-at (λ c. cond (isDigit c) (digitCharacter (digitValue c)) c) (λ c. c) 71 tt
-
--- two digits by the byte that they stand for
-two-digits : (c d b : ℕ) → isDigit c ≡ true → isDigit d ≡ true → 16 * digitValue c + digitValue d ≡ b
-    → (c ≡ digitCharacter (b / 16)) × (d ≡ digitCharacter (b % 16))
-two-digits c d b p q e =
-    let h : digitValue c ≡ b / 16 = omega (arith, digit-small c, digit-small d) in
-    let l : digitValue d ≡ b % 16 = omega (arith, digit-small c, digit-small d) in
-    (sym (digit-is c p) ∙ ap digitCharacter h, sym (digit-is d q) ∙ ap digitCharacter l)
-
--- a byte is below 256
-pub byte-small : (text : List ℕ) (i : ℕ) → getD (decodeHex text) i 0 < 256
-unfolding decodeHex
-byte-small [] i = omega arith
-byte-small (c ∷ []) i = omega arith
-byte-small (c ∷ d ∷ text) zero = omega (arith, digit-small c, digit-small d)
-byte-small (c ∷ d ∷ text) (suc i) = byte-small text i
 
 -- ---- the characters: 48 49 is 01, and 48 53 is 05
 

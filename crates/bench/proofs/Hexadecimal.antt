@@ -1,19 +1,19 @@
 -- Hexadecimal text and the bytes that it stands for.
 -- Assumes nothing.
 use mathlib.Core.Path.{_≡_, refl, sym, ap, ap₂, _∙_}
-use mathlib.Core.Bool.{Bool, true, false, _&&_, false≢true}
+use mathlib.Core.Bool.{Bool, true, false, cond, _&&_, false≢true}
 use mathlib.Core.List.{List, [], _∷_, _++_, append-assoc, append-nil}
-use Prim.Native.Nat.{ℕ, suc, _+_, _*_, _/_, _%_, _<_, _≤_}
+use Prim.Native.Nat.{ℕ, zero, suc, _+_, _*_, _/_, _%_, _<_, _≤_}
 use native.Mathlib.Nat.{add-zero}
 use native.Mathlib.Omega.{arith}
 use native.Mathlib.Numerals.{add-one}
-use lib.Dec.{leb}
+use lib.Dec.{leb, ltb}
 use lib.ListN.{length, take, drop, getD, set, length-drop, length-set, take-append-drop}
 use lib.Seq.{drop-cons, append-snoc, take-suc-set, drop-set-lt, drop-drop, drop-length, take-at}
-use borrow.Author.Tests.{leb-true}
-use Rattle.laws.proofs.Cases.{split}
+use borrow.Author.Tests.{leb-true, ltb-true, ltb-false}
+use Rattle.laws.proofs.Cases.{split, by-test}
 use Rattle.laws.proofs.Tables.{agree-at}
-use Rattle.bench.specs.Hexadecimal.{isDecimal, isCapital, digitValue, digitCharacter, decodeHex, encodeHex}
+use Rattle.bench.specs.Hexadecimal.{isDecimal, isCapital, isDigit, digitValue, digitCharacter, decodeHex, encodeHex}
 use Rattle.bench.specs.Statements.{HexadecimalLaw}
 
 -- ---- digits
@@ -45,6 +45,44 @@ digit-small c =
     split (λ (x : ℕ). x < 16) (isDecimal c)
     (λ t. omega (arith, decimal-small c t))
     (λ t. split (λ (x : ℕ). x < 16) (isCapital c) (λ u. omega (arith, capital-small c u)) (λ u. omega arith))
+
+-- no character past F is a digit
+digit-bound : (c : ℕ) → isDigit c ≡ true → c ≤ 70
+unfolding isDigit
+digit-bound c h =
+    by-test (isDecimal c) (c ≤ 70)
+    (λ t. omega (arith, decimal-small c t))
+    (λ t. capital-small c (rw t at h))
+
+-- a digit is the character of its value
+digit-is : (c : ℕ) → isDigit c ≡ true → digitCharacter (digitValue c) ≡ c
+digit-is c h =
+    by-test (ltb c 71) (digitCharacter (digitValue c) ≡ c)
+    (λ t.
+    let a : cond (isDigit c) (digitCharacter (digitValue c)) c ≡ c = table c (ltb-true c 71 t) in
+    rw h at a)
+    (λ t. absurd (omega (arith, digit-bound c h, ltb-false c 71 t)))
+  where
+    table : (c : ℕ) → c < 71 → cond (isDigit c) (digitCharacter (digitValue c)) c ≡ c
+    table =
+        unfold isDigit isDecimal isCapital digitValue digitCharacter in
+        agree-at (λ c. cond (isDigit c) (digitCharacter (digitValue c)) c) (λ c. c) 71 tt
+
+-- two digits by the byte that they stand for
+pub two-digits : (c d b : ℕ) → isDigit c ≡ true → isDigit d ≡ true → 16 * digitValue c + digitValue d ≡ b
+    → (c ≡ digitCharacter (b / 16)) × (d ≡ digitCharacter (b % 16))
+two-digits c d b p q e =
+    let h : digitValue c ≡ b / 16 = omega (arith, digit-small c, digit-small d) in
+    let l : digitValue d ≡ b % 16 = omega (arith, digit-small c, digit-small d) in
+    (sym (digit-is c p) ∙ ap digitCharacter h, sym (digit-is d q) ∙ ap digitCharacter l)
+
+-- a byte is below 256
+pub byte-small : (text : List ℕ) (i : ℕ) → getD (decodeHex text) i 0 < 256
+unfolding decodeHex
+byte-small [] i = omega arith
+byte-small (c ∷ []) i = omega arith
+byte-small (c ∷ d ∷ text) zero = omega (arith, digit-small c, digit-small d)
+byte-small (c ∷ d ∷ text) (suc i) = byte-small text i
 
 -- ---- decode after encode
 

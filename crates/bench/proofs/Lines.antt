@@ -16,10 +16,18 @@ use Rattle.bench.specs.Lines.{lineFeed}
 use Rattle.bench.specs.Input.{lastLine, linesAfter, lines, firstLine, hasLineFeed, usedBy}
 use Rattle.bench.specs.Statements.{LinesLaw}
 
--- of characters that are no line feed neither the first nor any after it is one
+-- if a text has no line feed, its first character is none, and the rest has none
 pub feedless-more : (c : ℕ) (r : List ℕ) → hasLineFeed (c ∷ r) ≡ false → (eqb c lineFeed ≡ false) × (hasLineFeed r ≡ false)
 unfolding hasLineFeed
 feedless-more c r e = neither (eqb c lineFeed) (hasLineFeed r) e
+
+-- it goes on into the first line of what follows
+pub first-append : (text rest : List ℕ) → hasLineFeed text ≡ false → firstLine (text ++ rest) ≡ text ++ firstLine rest
+unfolding firstLine
+first-append [] rest e = refl
+first-append (c ∷ text) rest e =
+    let p = feedless-more c text e in
+    rw (p .0) (ap (λ (l : List ℕ). c ∷ l) (first-append text rest (p .1)))
 
 -- the first line has no line feed
 pub first-feedless : (r : List ℕ) → hasLineFeed (firstLine r) ≡ false

@@ -58,6 +58,9 @@ pub long-frame : (text : List ℕ) → maxLine text < length text → frameOfTex
 unfolding frameOfText
 long-frame text h = rw (lt-leb (length text) (maxLine text) h)
 
+pub too-long : (text : List ℕ) → maxWideLine < length text → frameOfText text ≡ Invalid
+too-long text h = long-frame text (omega (arith, max-line text))
+
 pub other-frame : (text : List ℕ) → isHex text ≡ false → frameOfText text ≡ Invalid
 unfolding frameOfText
 other-frame text h = rw h (go (leb (length text) (maxLine text)))

@@ -1,4 +1,4 @@
-// One line on a Fortuna state.
+// One line: which frame it is, and what it does on a Fortuna state.
 ghost use mathlib.Core.Path.{_≡_};
 ghost use mathlib.Core.Option.{none, some};
 ghost use Prim.Native.Nat.{_+_, _*_, _≤_};
@@ -49,7 +49,7 @@ fn max_line(text: &[u8]) -> usize
 }
 
 // The frame that a line of text is, without its line feed.
-pub fn frame_of(text: &[u8]) -> Frame
+pub fn frame_of_text(text: &[u8]) -> Frame
     ensures { λ r. ⌜ r ≡ frameOfText (now (text .entry)) ⌝ }
 {
     if max_line(text) < text.len() {

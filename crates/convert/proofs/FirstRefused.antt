@@ -1,7 +1,7 @@
 -- The lines that are written, and the first refused one.
 -- Assumes nothing.
 use mathlib.Core.Path.{_≡_, refl, ap, _∙_}
-use mathlib.Core.Bool.{Bool, false}
+use mathlib.Core.Bool.{Bool}
 use mathlib.Core.List.{List, [], _∷_, _++_}
 use mathlib.Core.Logic.{_⊎_, inl, inr}
 use Prim.Native.Nat.{ℕ, zero, suc, _+_, _-_, _<_}
@@ -9,17 +9,13 @@ use native.Mathlib.Omega.{arith}
 use lib.ListN.{length, take, getD, length-append}
 use lib.Seq.{take-all}
 use Rattle.laws.specs.Lists.{joined}
-use Rattle.convert.specs.Logs.{Line, lineWith, linesOf, writtenOf, refusalOf, Conversion, finished, after, convertedLines, conversion}
-use Rattle.convert.specs.Statements.{Stopped, FirstRefusedLaw}
+use Rattle.convert.specs.Logs.{Line, logLines, writtenOf, refusalOf, Conversion, allWritten, withBytes, convertedLines, conversion}
+use Rattle.convert.specs.Statements.{noLine, Finished, Stopped, FirstRefusedLaw}
 use Rattle.convert.proofs.Conversions.{no-lines, either, fits}
 
--- past the end of a list
-abbrev pub noLine : Line
-noLine = lineWith [] false
-
 -- the room that the first j lines leave
-abbrev pub left : Bool → ℕ → List Line → ℕ → ℕ
-left wide room ls j = room - length (joined (writtenOf wide) (take j ls))
+abbrev pub leftRoom : Bool → ℕ → List Line → ℕ → ℕ
+leftRoom wide room ls j = room - length (joined (writtenOf wide) (take j ls))
 
 -- every line was written
 pub record Ended (ls : List Line) (k : ℕ) (c : Conversion) : Type 0 where
@@ -31,17 +27,17 @@ pub record Ended (ls : List Line) (k : ℕ) (c : Conversion) : Type 0 where
 pub record Refused (wide : Bool) (room first : ℕ) (ls : List Line) (k : ℕ) (c : Conversion) : Type 0 where
   pub inside : k < length ls
   pub some : c .number ≡ 0 → ⊥
-  pub number : refusalOf wide (left wide room ls k) (getD ls k noLine) ≡ c .number
+  pub number : refusalOf wide (leftRoom wide room ls k) (getD ls k noLine) ≡ c .number
   pub line : c .line ≡ first + k
 
 -- the first k lines are written, and no more
 pub record Came (wide : Bool) (room first : ℕ) (ls : List Line) (c : Conversion) : Type 0 where
   pub k : ℕ
-  pub passed : (j : ℕ) → j < k → refusalOf wide (left wide room ls j) (getD ls j noLine) ≡ 0
+  pub passed : (j : ℕ) → j < k → refusalOf wide (leftRoom wide room ls j) (getD ls j noLine) ≡ 0
   pub written : c .written ≡ joined (writtenOf wide) (take k ls)
   pub last : Ended ls k c ⊎ Refused wide room first ls k c
 
-none-came : (wide : Bool) (room first : ℕ) → Came wide room first [] finished
+none-came : (wide : Bool) (room first : ℕ) → Came wide room first [] (allWritten [])
 unfolding joined
 none-came wide room first = record {
   k = 0;
@@ -66,18 +62,18 @@ came-here wide room first l ls n =
 -- or it is written, and the rest comes to what it comes to
 module _ (wide : Bool) (room first : ℕ) (l : Line) (ls : List Line) (c : Conversion) (e : refusalOf wide room l ≡ 0)
     (r : Came wide (room - length (writtenOf wide l)) (suc first) ls c) where
-  left-more : (j : ℕ) → left wide room (l ∷ ls) (suc j) ≡ left wide (room - length (writtenOf wide l)) ls j
+  left-more : (j : ℕ) → leftRoom wide room (l ∷ ls) (suc j) ≡ leftRoom wide (room - length (writtenOf wide l)) ls j
   unfolding joined
   left-more j = rw (length-append (writtenOf wide l) (joined (writtenOf wide) (take j ls))) (omega arith)
 
-  earlier : (j : ℕ) → j < suc (r .k) → refusalOf wide (left wide room (l ∷ ls) j) (getD (l ∷ ls) j noLine) ≡ 0
+  earlier : (j : ℕ) → j < suc (r .k) → refusalOf wide (leftRoom wide room (l ∷ ls) j) (getD (l ∷ ls) j noLine) ≡ 0
   unfolding joined
   earlier zero h = let z : room - 0 ≡ room = omega arith in ap (λ (n : ℕ). refusalOf wide n l) z ∙ e
   earlier (suc j) h = ap (λ (n : ℕ). refusalOf wide n (getD ls j noLine)) (left-more j) ∙ r .passed j (omega arith)
 
   last-more : Ended ls (r .k) c ⊎ Refused wide (room - length (writtenOf wide l)) (suc first) ls (r .k) c
-      → Ended (l ∷ ls) (suc (r .k)) (after (writtenOf wide l) c) ⊎ Refused wide room first (l ∷ ls) (suc (r .k)) (after (writtenOf wide l) c)
-  unfolding after
+      → Ended (l ∷ ls) (suc (r .k)) (withBytes (writtenOf wide l) c) ⊎ Refused wide room first (l ∷ ls) (suc (r .k)) (withBytes (writtenOf wide l) c)
+  unfolding withBytes
   last-more (inl x) = inl (record { all = ap suc (x .all); number = x .number; line = x .line })
   last-more (inr x) = inr (record {
     inside = omega (arith, x .inside);
@@ -86,11 +82,11 @@ module _ (wide : Bool) (room first : ℕ) (l : Line) (ls : List Line) (c : Conve
     line = x .line ∙ omega arith;
   })
 
-  came-later : Came wide room first (l ∷ ls) (after (writtenOf wide l) c)
+  came-later : Came wide room first (l ∷ ls) (withBytes (writtenOf wide l) c)
   came-later = record {
     k = suc (r .k);
     passed = earlier;
-    written = unfold after joined in ap (λ (x : List ℕ). writtenOf wide l ++ x) (r .written);
+    written = unfold withBytes joined in ap (λ (x : List ℕ). writtenOf wide l ++ x) (r .written);
     last = last-more (r .last);
   }
 
@@ -103,20 +99,20 @@ came wide room first (l ∷ ls) =
 
 -- ---- of a log
 
-pub came-log : (wide : Bool) (room : ℕ) (log : List ℕ) → Came wide room 1 (linesOf log) (conversion wide room log)
+pub came-log : (wide : Bool) (room : ℕ) (log : List ℕ) → Came wide room 1 (logLines log) (conversion wide room log)
 unfolding conversion
-came-log wide room log = came wide room 1 (linesOf log)
+came-log wide room log = came wide room 1 (logLines log)
 
-module _ (wide : Bool) (room : ℕ) (log : List ℕ) (r : Came wide room 1 (linesOf log) (conversion wide room log)) where
+module _ (wide : Bool) (room : ℕ) (log : List ℕ) (r : Came wide room 1 (logLines log) (conversion wide room log)) where
   abbrev End : Type 0
-  End = Ended (linesOf log) (r .k) (conversion wide room log) ⊎ Refused wide room 1 (linesOf log) (r .k) (conversion wide room log)
+  End = Ended (logLines log) (r .k) (conversion wide room log) ⊎ Refused wide room 1 (logLines log) (r .k) (conversion wide room log)
 
-  whole : conversion wide room log .number ≡ 0 → End
-      → (conversion wide room log .written ≡ joined (writtenOf wide) (linesOf log)) × (conversion wide room log .line ≡ 0)
-  whole h (inl x) = (
-    r .written ∙ ap (joined (writtenOf wide)) (take-all (r .k) (linesOf log) (omega (arith, x .all))),
-    x .line,
-  )
+  whole : conversion wide room log .number ≡ 0 → End → Finished wide room log
+  whole h (inl x) = record {
+    passed = λ j i. r .passed j (omega (arith, i, x .all));
+    line = x .line;
+    written = r .written ∙ ap (joined (writtenOf wide)) (take-all (r .k) (logLines log) (omega (arith, x .all)));
+  }
   whole h (inr x) = absurd (x .some h)
 
   at-line : (conversion wide room log .number ≡ 0 → ⊥) → End → Stopped wide room log
@@ -134,7 +130,7 @@ pub first-refused : FirstRefusedLaw
 first-refused wide room log =
     let r = came-log wide room log in
     record {
-      fits = unfold conversion in fits wide room 1 (linesOf log);
+      fits = unfold conversion in fits wide room 1 (logLines log);
       all = λ h. whole wide room log r h (r .last);
       stopped = λ h. at-line wide room log r h (r .last);
     }

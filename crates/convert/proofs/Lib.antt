@@ -1,11 +1,15 @@
 pub mod Numbers
 pub mod Lines
+pub mod TextNumbers
 pub mod LogLines
 pub mod Conversions
+pub mod Orders
 pub mod FirstRefused
-pub mod WholeLogs
 pub mod Rooms
+pub mod WholeLogs
+pub mod OtherRooms
 pub mod Pieces
+pub mod LongLines
 pub mod Stores
 pub mod Writes
 pub mod Walks

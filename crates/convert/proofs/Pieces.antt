@@ -3,6 +3,7 @@
 use mathlib.Core.Path.{_≡_, refl, sym, ap, ap₂, _∙_}
 use mathlib.Core.Bool.{Bool}
 use mathlib.Core.List.{List, [], _∷_, _++_, append-nil}
+use mathlib.Core.Logic.{_⊎_, inl, inr}
 use Prim.Native.Nat.{ℕ, suc, _+_, _-_, _≤_}
 use native.Mathlib.Omega.{arith}
 use lib.Dec.{eqb}
@@ -10,62 +11,64 @@ use lib.ListN.{length}
 use borrow.Author.Tests.{eqb-true, eqb-false, eq-eqb, ne-eqb}
 use Rattle.laws.specs.Lists.{joined}
 use Rattle.laws.proofs.Cases.{by-test}
-use Rattle.convert.specs.Logs.{Line, linesOf, writtenOf, refusalOf, Conversion, finished, after, convertedLines, conversion, counted, inPieces}
+use Rattle.bench.specs.Lines.{lineFeed}
+use Rattle.convert.specs.Logs.{Line, logLines, writtenOf, refusalOf, Conversion, allWritten, withBytes, convertedLines, conversion}
+use Rattle.convert.specs.Pieces.{withLines, inPieces}
 use Rattle.convert.specs.Statements.{CutAfterLines, PiecesLaw}
-use Rattle.convert.proofs.LogLines.{lines-none, lines-append}
-use Rattle.convert.proofs.Conversions.{goes-on, stops, no-lines, after-after, number-after, length-after}
-use Rattle.convert.proofs.Rooms.{other-room}
+use Rattle.convert.proofs.LogLines.{joined-none, lines-none, lines-append}
+use Rattle.convert.proofs.Conversions.{goes-on, stops, no-lines, with-with, number-with, length-with}
+use Rattle.convert.proofs.OtherRooms.{other-room}
 
 -- ---- line numbers
 
-count-after : (n : ℕ) (bytes : List ℕ) (c : Conversion) → counted n (after bytes c) ≡ after bytes (counted n c)
-unfolding counted after
-count-after n bytes c = refl
+count-with : (n : ℕ) (bytes : List ℕ) (c : Conversion) → withLines n (withBytes bytes c) ≡ withBytes bytes (withLines n c)
+unfolding withLines withBytes
+count-with n bytes c = refl
 
 count-some : (n k m : ℕ) → (m ≡ 0 → ⊥)
-    → counted n (record { written = []; number = m; line = k }) ≡ record { written = []; number = m; line = n + k }
-unfolding counted
+    → withLines n (record { written = []; number = m; line = k }) ≡ record { written = []; number = m; line = n + k }
+unfolding withLines
 count-some n k m h = rw (ne-eqb m 0 h)
 
-count-none : (n : ℕ) → counted n finished ≡ finished
-unfolding counted
+count-none : (n : ℕ) → withLines n (allWritten []) ≡ (allWritten [])
+unfolding withLines
 count-none n = refl
 
 -- lines that are counted from n + k on
-numbered : (wide : Bool) (room n k : ℕ) (ls : List Line) → convertedLines wide room (n + k) ls ≡ counted n (convertedLines wide room k ls)
-numbered wide room n k [] = no-lines wide room (n + k) ∙ sym (count-none n) ∙ ap (counted n) (sym (no-lines wide room k))
+numbered : (wide : Bool) (room n k : ℕ) (ls : List Line) → convertedLines wide room (n + k) ls ≡ withLines n (convertedLines wide room k ls)
+numbered wide room n k [] = no-lines wide room (n + k) ∙ sym (count-none n) ∙ ap (withLines n) (sym (no-lines wide room k))
 numbered wide room n k (l ∷ ls) =
-    by-test (eqb (refusalOf wide room l) 0) (convertedLines wide room (n + k) (l ∷ ls) ≡ counted n (convertedLines wide room k (l ∷ ls)))
+    by-test (eqb (refusalOf wide room l) 0) (convertedLines wide room (n + k) (l ∷ ls) ≡ withLines n (convertedLines wide room k (l ∷ ls)))
     (λ t.
     let e = eqb-true (refusalOf wide room l) 0 t in
     let less = room - length (writtenOf wide l) in
     let next : suc (n + k) ≡ n + suc k = omega arith in
     goes-on wide room (n + k) l ls e
-    ∙ ap (after (writtenOf wide l)) (ap (λ (x : ℕ). convertedLines wide less x ls) next ∙ numbered wide less n (suc k) ls)
-    ∙ sym (count-after n (writtenOf wide l) (convertedLines wide less (suc k) ls)) ∙ ap (counted n) (sym (goes-on wide room k l ls e)))
+    ∙ ap (withBytes (writtenOf wide l)) (ap (λ (x : ℕ). convertedLines wide less x ls) next ∙ numbered wide less n (suc k) ls)
+    ∙ sym (count-with n (writtenOf wide l) (convertedLines wide less (suc k) ls)) ∙ ap (withLines n) (sym (goes-on wide room k l ls e)))
     (λ t.
     let s = eqb-false (refusalOf wide room l) 0 t in
-    stops wide room (n + k) l ls s ∙ sym (count-some n k (refusalOf wide room l) s) ∙ ap (counted n) (sym (stops wide room k l ls s)))
+    stops wide room (n + k) l ls s ∙ sym (count-some n k (refusalOf wide room l) s) ∙ ap (withLines n) (sym (stops wide room k l ls s)))
 
 -- ---- lines and those after them
 
 module _ (wide : Bool) (ms : List Line) where
   -- what comes after the first ones, with the room that they leave
   abbrev followed : ℕ → ℕ → Conversion → Conversion
-  followed room k c = after (c .written) (convertedLines wide (room - length (c .written)) k ms)
+  followed room k c = withBytes (c .written) (convertedLines wide (room - length (c .written)) k ms)
 
-  followed-none : (room k : ℕ) → followed room (k + 0) finished ≡ convertedLines wide room k ms
-  unfolding after
+  followed-none : (room k : ℕ) → followed room (k + 0) (allWritten []) ≡ convertedLines wide room k ms
+  unfolding withBytes
   followed-none room k =
       let z : room - 0 ≡ room = omega arith in
       let same : k + 0 ≡ k = omega arith in
       ap₂ (λ (r n : ℕ). convertedLines wide r n ms) z same
 
-  followed-more : (room k : ℕ) (bytes : List ℕ) (c : Conversion) → after bytes (followed (room - length bytes) k c) ≡ followed room k (after bytes c)
+  followed-more : (room k : ℕ) (bytes : List ℕ) (c : Conversion) → withBytes bytes (followed (room - length bytes) k c) ≡ followed room k (withBytes bytes c)
   followed-more room k bytes c =
-      let less : room - length bytes - length (c .written) ≡ room - length (after bytes c .written) = omega (arith, length-after bytes c) in
-      after-after bytes (c .written) _ ∙ ap (λ (r : ℕ). after (bytes ++ c .written) (convertedLines wide r k ms)) less
-      ∙ ap (λ (x : List ℕ). after x (convertedLines wide (room - length (after bytes c .written)) k ms)) (unfold after in refl)
+      let less : room - length bytes - length (c .written) ≡ room - length (withBytes bytes c .written) = omega (arith, length-with bytes c) in
+      with-with bytes (c .written) _ ∙ ap (λ (r : ℕ). withBytes (bytes ++ c .written) (convertedLines wide r k ms)) less
+      ∙ ap (λ (x : List ℕ). withBytes x (convertedLines wide (room - length (withBytes bytes c .written)) k ms)) (unfold withBytes in refl)
 
   -- where the first ones are all written
   goes-over : (room k : ℕ) (ls : List Line) → convertedLines wide room k ls .number ≡ 0
@@ -79,10 +82,10 @@ module _ (wide : Bool) (ms : List Line) where
       let less = room - length (writtenOf wide l) in
       let rest = convertedLines wide less (suc k) ls in
       let here = goes-on wide room k l ls a in
-      let none : rest .number ≡ 0 = sym (ap (λ (c : Conversion). c .number) here ∙ number-after (writtenOf wide l) rest) ∙ e in
+      let none : rest .number ≡ 0 = sym (ap (λ (c : Conversion). c .number) here ∙ number-with (writtenOf wide l) rest) ∙ e in
       let count : suc k + length ls ≡ k + suc (length ls) = omega arith in
       goes-on wide room k l (ls ++ ms) a
-      ∙ ap (after (writtenOf wide l)) (goes-over less (suc k) ls none ∙ ap (λ (n : ℕ). followed less n rest) count)
+      ∙ ap (withBytes (writtenOf wide l)) (goes-over less (suc k) ls none ∙ ap (λ (n : ℕ). followed less n rest) count)
       ∙ followed-more room (k + suc (length ls)) (writtenOf wide l) rest ∙ ap (followed room (k + suc (length ls))) (sym here))
       (λ t.
       let s = eqb-false (refusalOf wide room l) 0 t in
@@ -99,33 +102,36 @@ module _ (wide : Bool) (ms : List Line) where
       let less = room - length (writtenOf wide l) in
       let here = goes-on wide room k l ls e in
       let some : convertedLines wide less (suc k) ls .number ≡ 0 → ⊥ =
-      λ z. n (ap (λ (c : Conversion). c .number) here ∙ number-after (writtenOf wide l) (convertedLines wide less (suc k) ls) ∙ z) in
-      goes-on wide room k l (ls ++ ms) e ∙ ap (after (writtenOf wide l)) (stops-before less (suc k) ls some) ∙ sym here)
+      λ z. n (ap (λ (c : Conversion). c .number) here ∙ number-with (writtenOf wide l) (convertedLines wide less (suc k) ls) ∙ z) in
+      goes-on wide room k l (ls ++ ms) e ∙ ap (withBytes (writtenOf wide l)) (stops-before less (suc k) ls some) ∙ sym here)
       (λ t.
       let s = eqb-false (refusalOf wide room l) 0 t in
       stops wide room k l (ls ++ ms) s ∙ sym (stops wide room k l ls s))
 
 -- ---- pieces
 
-joined-nothing : joined (λ (p : List ℕ). p) [] ≡ []
-unfolding joined
-joined-nothing = refl
-
 -- the lines of a piece and of those after it
 lines-pieces : (piece : List ℕ) (pieces : List (List ℕ)) → CutAfterLines (piece ∷ pieces)
-    → linesOf (joined (λ p. p) (piece ∷ pieces)) ≡ linesOf piece ++ linesOf (joined (λ p. p) pieces)
+    → logLines (joined (λ p. p) (piece ∷ pieces)) ≡ logLines piece ++ logLines (joined (λ p. p) pieces)
 unfolding joined
-lines-pieces piece [] cut = ap linesOf (append-nil piece) ∙ sym (append-nil (linesOf piece)) ∙ ap (λ (x : List Line). linesOf piece ++ x) (sym lines-none)
+lines-pieces piece [] cut = ap logLines (append-nil piece) ∙ sym (append-nil (logLines piece)) ∙ ap (λ (x : List Line). logLines piece ++ x) (sym lines-none)
 lines-pieces piece (next ∷ pieces) cut =
-    let ended = cut 0 (omega arith) in
-    lines-append piece _ (ended .0) (ended .1)
+    go (cut 0 (omega arith))
+  where
+    rest : List ℕ
+    rest = next ++ joined (λ p. p) pieces
 
-counted-written : (before : ℕ) (c : Conversion) → counted before c .written ≡ c .written
-unfolding counted
+    go : (piece ≡ []) ⊎ ((before : List ℕ) × (piece ≡ before ++ (lineFeed ∷ []))) → logLines (piece ++ rest) ≡ logLines piece ++ logLines rest
+    go (inl e) =
+        ap (λ (x : List ℕ). logLines (x ++ rest)) e ∙ ap (λ (x : List Line). x ++ logLines rest) (sym lines-none ∙ ap logLines (sym e))
+    go (inr (before, e)) = lines-append piece _ before e
+
+counted-written : (before : ℕ) (c : Conversion) → withLines before c .written ≡ c .written
+unfolding withLines
 counted-written before c = refl
 
-counted-number : (before : ℕ) (c : Conversion) → counted before c .number ≡ c .number
-unfolding counted
+counted-number : (before : ℕ) (c : Conversion) → withLines before c .number ≡ c .number
+unfolding withLines
 counted-number before c = refl
 
 -- a piece whose lines are all written, and one in which a line is refused
@@ -134,22 +140,22 @@ module _ (wide : Bool) (room before : ℕ) (piece : List ℕ) (pieces : List (Li
   here = conversion wide room piece
 
   abbrev later : Conversion
-  later = inPieces wide room (before + length (linesOf piece)) pieces
+  later = inPieces wide room (before + length (logLines piece)) pieces
 
-  pieces-on : here .number ≡ 0 → inPieces wide room before (piece ∷ pieces) ≡ after (here .written) later
-  unfolding inPieces
+  pieces-on : here .number ≡ 0 → inPieces wide room before (piece ∷ pieces) ≡ withBytes (here .written) later
+  unfolding inPieces withLines
   pieces-on e = rw (eq-eqb (here .number) 0 e)
 
-  pieces-stop : (here .number ≡ 0 → ⊥) → inPieces wide room before (piece ∷ pieces) ≡ counted before here
-  unfolding inPieces
+  pieces-stop : (here .number ≡ 0 → ⊥) → inPieces wide room before (piece ∷ pieces) ≡ withLines before here
+  unfolding inPieces withLines
   pieces-stop n = rw (ne-eqb (here .number) 0 n)
 
   -- the piece's own lines, in another room, counted from those before
   here-is : (whole : ℕ) → (here .number ≡ 46 → ⊥) → length (here .written) ≤ whole
-      → convertedLines wide whole (before + 1) (linesOf piece) ≡ counted before here
+      → convertedLines wide whole (before + 1) (logLines piece) ≡ withLines before here
   unfolding conversion
   here-is whole n h =
-      numbered wide whole before 1 (linesOf piece) ∙ ap (counted before) (other-room wide room whole 1 (linesOf piece) n h)
+      numbered wide whole before 1 (logLines piece) ∙ ap (withLines before) (other-room wide room whole 1 (logLines piece) n h)
 
   abbrev both : Conversion
   both = inPieces wide room before (piece ∷ pieces)
@@ -157,34 +163,34 @@ module _ (wide : Bool) (room before : ℕ) (piece : List ℕ) (pieces : List (Li
   module _ (whole : ℕ) (n : both .number ≡ 46 → ⊥) (h : length (both .written) ≤ whole) (ls : List Line) where
     on : here .number ≡ 0
         → ((later .number ≡ 46 → ⊥) → length (later .written) ≤ whole - length (here .written)
-        → convertedLines wide (whole - length (here .written)) (before + length (linesOf piece) + 1) ls ≡ later)
-        → convertedLines wide whole (before + 1) (linesOf piece ++ ls) ≡ both
+        → convertedLines wide (whole - length (here .written)) (before + length (logLines piece) + 1) ls ≡ later)
+        → convertedLines wide whole (before + 1) (logLines piece ++ ls) ≡ both
     on e rest =
         let more = pieces-on e in
         let size : length (both .written) ≡ length (here .written) + length (later .written) =
-        ap (λ (c : Conversion). length (c .written)) more ∙ length-after (here .written) later in
+        ap (λ (c : Conversion). length (c .written)) more ∙ length-with (here .written) later in
         let is = here-is whole (λ z. omega (arith, e, z)) (omega (arith, h, size)) in
-        let none : convertedLines wide whole (before + 1) (linesOf piece) .number ≡ 0 =
+        let none : convertedLines wide whole (before + 1) (logLines piece) .number ≡ 0 =
         ap (λ (c : Conversion). c .number) is ∙ counted-number before here ∙ e in
-        let count : before + 1 + length (linesOf piece) ≡ before + length (linesOf piece) + 1 = omega arith in
-        let last = rest (λ z. n (ap (λ (c : Conversion). c .number) more ∙ number-after (here .written) later ∙ z)) (omega (arith, h, size)) in
-        goes-over wide ls whole (before + 1) (linesOf piece) none
-        ∙ ap (λ (x : List ℕ). after x (convertedLines wide (whole - length x) (before + 1 + length (linesOf piece)) ls))
+        let count : before + 1 + length (logLines piece) ≡ before + length (logLines piece) + 1 = omega arith in
+        let last = rest (λ z. n (ap (λ (c : Conversion). c .number) more ∙ number-with (here .written) later ∙ z)) (omega (arith, h, size)) in
+        goes-over wide ls whole (before + 1) (logLines piece) none
+        ∙ ap (λ (x : List ℕ). withBytes x (convertedLines wide (whole - length x) (before + 1 + length (logLines piece)) ls))
         (ap (λ (c : Conversion). c .written) is ∙ counted-written before here)
-        ∙ ap (after (here .written)) (ap (λ (k : ℕ). convertedLines wide (whole - length (here .written)) k ls) count ∙ last) ∙ sym more
+        ∙ ap (withBytes (here .written)) (ap (λ (k : ℕ). convertedLines wide (whole - length (here .written)) k ls) count ∙ last) ∙ sym more
 
-    stop : (here .number ≡ 0 → ⊥) → convertedLines wide whole (before + 1) (linesOf piece ++ ls) ≡ both
+    stop : (here .number ≡ 0 → ⊥) → convertedLines wide whole (before + 1) (logLines piece ++ ls) ≡ both
     stop s =
         let end = pieces-stop s in
         let number : both .number ≡ here .number = ap (λ (c : Conversion). c .number) end ∙ counted-number before here in
         let size : length (both .written) ≡ length (here .written) =
         ap (λ (c : Conversion). length (c .written)) end ∙ ap length (counted-written before here) in
         let is = here-is whole (λ z. n (number ∙ z)) (omega (arith, h, size)) in
-        let some : convertedLines wide whole (before + 1) (linesOf piece) .number ≡ 0 → ⊥ =
+        let some : convertedLines wide whole (before + 1) (logLines piece) .number ≡ 0 → ⊥ =
         λ z. s (sym (ap (λ (c : Conversion). c .number) is ∙ counted-number before here) ∙ z) in
-        stops-before wide ls whole (before + 1) (linesOf piece) some ∙ is ∙ sym end
+        stops-before wide ls whole (before + 1) (logLines piece) some ∙ is ∙ sym end
 
-no-pieces : (wide : Bool) (room before : ℕ) → inPieces wide room before [] ≡ finished
+no-pieces : (wide : Bool) (room before : ℕ) → inPieces wide room before [] ≡ (allWritten [])
 unfolding inPieces
 no-pieces wide room before = refl
 
@@ -194,18 +200,18 @@ later-cut piece pieces cut k h = cut (suc k) (omega arith)
 module _ (wide : Bool) (room : ℕ) where
   piece-by-piece : (pieces : List (List ℕ)) (before whole : ℕ) → CutAfterLines pieces → (inPieces wide room before pieces .number ≡ 46 → ⊥)
       → length (inPieces wide room before pieces .written) ≤ whole
-      → convertedLines wide whole (before + 1) (linesOf (joined (λ p. p) pieces)) ≡ inPieces wide room before pieces
+      → convertedLines wide whole (before + 1) (logLines (joined (λ p. p) pieces)) ≡ inPieces wide room before pieces
   piece-by-piece [] before whole cut n h =
-      ap (convertedLines wide whole (before + 1)) (ap linesOf joined-nothing ∙ lines-none)
+      ap (convertedLines wide whole (before + 1)) (ap logLines (joined-none (λ p. p)) ∙ lines-none)
       ∙ no-lines wide whole (before + 1) ∙ sym (no-pieces wide room before)
   piece-by-piece (piece ∷ pieces) before whole cut n h =
       ap (convertedLines wide whole (before + 1)) (lines-pieces piece pieces cut)
       ∙ by-test (eqb (conversion wide room piece .number) 0)
-      (convertedLines wide whole (before + 1) (linesOf piece ++ linesOf (joined (λ p. p) pieces)) ≡ inPieces wide room before (piece ∷ pieces))
+      (convertedLines wide whole (before + 1) (logLines piece ++ logLines (joined (λ p. p) pieces)) ≡ inPieces wide room before (piece ∷ pieces))
       (λ t.
-      on wide room before piece pieces whole n h (linesOf (joined (λ p. p) pieces)) (eqb-true (conversion wide room piece .number) 0 t)
-      (piece-by-piece pieces (before + length (linesOf piece)) (whole - length (conversion wide room piece .written)) (later-cut piece pieces cut)))
-      (λ t. stop wide room before piece pieces whole n h (linesOf (joined (λ p. p) pieces)) (eqb-false (conversion wide room piece .number) 0 t))
+      on wide room before piece pieces whole n h (logLines (joined (λ p. p) pieces)) (eqb-true (conversion wide room piece .number) 0 t)
+      (piece-by-piece pieces (before + length (logLines piece)) (whole - length (conversion wide room piece .written)) (later-cut piece pieces cut)))
+      (λ t. stop wide room before piece pieces whole n h (logLines (joined (λ p. p) pieces)) (eqb-false (conversion wide room piece .number) 0 t))
 
 pub in-pieces : PiecesLaw
 unfolding conversion

@@ -1,4 +1,4 @@
--- How much room is enough, and that more changes nothing.
+-- How much room is always enough.
 -- Assumes nothing.
 use mathlib.Core.Path.{_≡_, refl, sym, ap, _∙_}
 use mathlib.Core.Bool.{Bool, true, false}
@@ -15,12 +15,13 @@ use Rattle.bench.specs.Frames.{frameOfText}
 use Rattle.bench.specs.declared.frame.Frame.{Frame}
 use Rattle.bench.specs.declared.frame.Frame.the-variants.{Event, Request, Update, Write, WideEvent, Invalid}
 use Rattle.bench.proofs.Hexadecimal.{length-decode}
-use Rattle.convert.specs.Texts.{maxNarrowSource, isWanted, lineNumber, converted}
-use Rattle.convert.specs.Logs.{Line, endOf, wholeLine, linesOf, writtenOf, refusalOf, Conversion, after, convertedLines, conversion}
+use Rattle.convert.specs.Texts.{maxNarrowSource, isWanted, textNumber, converted}
+use Rattle.convert.specs.Logs.{Line, endOf, wholeLine, logLines, writtenOf, Conversion, convertedLines, conversion}
 use Rattle.convert.specs.Statements.{EnoughRoomLaw}
-use Rattle.convert.proofs.Lines.{line-laws, shape, wider-text, wide-shape, narrower-text, large-number, zeros, stray-line}
+use Rattle.convert.proofs.Lines.{line-laws, shape, wider-text, wide-shape, narrower-text, large-number, high-zero}
+use Rattle.convert.proofs.TextNumbers.{stray-text}
 use Rattle.convert.proofs.LogLines.{lines-cut}
-use Rattle.convert.proofs.Conversions.{Accepted, RoomRefused, TextRefused, which, accepted, no-refusal, refusal-text, goes-on, stops, no-lines, number-after, length-after, text-not-46, length-written}
+use Rattle.convert.proofs.Conversions.{LineAccepted, RoomRefused, TextRefused, which, no-refusal, goes-on, stops, no-lines, number-with, text-not-46, length-written}
 
 -- ---- how a line grows
 
@@ -35,7 +36,7 @@ longer text source pool e =
 shorter : (text : List ℕ) (source pool : ℕ) (e : frameOfText text ≡ WideEvent source pool) → source ≤ maxNarrowSource
     → length (converted false text) ≤ length text
 shorter text source pool e h =
-    let before : length text ≡ 4 + length (wide-shape text source pool e .rest) = ap length (zeros text source pool e h) ∙ omega arith in
+    let before : length text ≡ 4 + length (wide-shape text source pool e .rest) = ap length (high-zero text source pool e h) ∙ omega arith in
     let new : length (converted false text) ≡ 2 + length (wide-shape text source pool e .rest) = ap length (narrower-text text source pool e h) ∙ omega arith in
     omega (arith, before, new)
 
@@ -43,16 +44,16 @@ shorter text source pool e h =
 same-size : (wide : Bool) (text : List ℕ) → isWanted wide (frameOfText text) ≡ true → length (converted wide text) ≡ length text
 same-size wide text w = ap length (line-laws text .unchanged wide w .1)
 
-wide-size : (text : List ℕ) (f : Frame) → frameOfText text ≡ f → lineNumber true text ≡ 0 → 3 * length (converted true text) ≤ 4 * length text
+wide-size : (text : List ℕ) (f : Frame) → frameOfText text ≡ f → textNumber true text ≡ 0 → 3 * length (converted true text) ≤ 4 * length text
 unfolding isWanted
 wide-size text (Event source pool) e n = longer text source pool e
 wide-size text (Request clock count) e n = omega (arith, same-size true text (ap (isWanted true) e))
 wide-size text (Update clock) e n = omega (arith, same-size true text (ap (isWanted true) e))
 wide-size text (Write clock) e n = omega (arith, same-size true text (ap (isWanted true) e))
 wide-size text (WideEvent source pool) e n = omega (arith, same-size true text (ap (isWanted true) e))
-wide-size text Invalid e n = let z : lineNumber true text ≡ 16 = stray-line true text .1 e in absurd (omega arith)
+wide-size text Invalid e n = let z : textNumber true text ≡ 16 = stray-text true text .1 e in absurd (omega arith)
 
-narrow-size : (text : List ℕ) (f : Frame) → frameOfText text ≡ f → lineNumber false text ≡ 0 → length (converted false text) ≤ length text
+narrow-size : (text : List ℕ) (f : Frame) → frameOfText text ≡ f → textNumber false text ≡ 0 → length (converted false text) ≤ length text
 unfolding isWanted
 narrow-size text (Event source pool) e n = omega (arith, same-size false text (ap (isWanted false) e))
 narrow-size text (Request clock count) e n = omega (arith, same-size false text (ap (isWanted false) e))
@@ -60,9 +61,9 @@ narrow-size text (Update clock) e n = omega (arith, same-size false text (ap (is
 narrow-size text (Write clock) e n = omega (arith, same-size false text (ap (isWanted false) e))
 narrow-size text (WideEvent source pool) e n =
     by-test (ltb maxNarrowSource source) (length (converted false text) ≤ length text)
-    (λ t. absurd (let z : lineNumber false text ≡ 43 = large-number text source pool e (ltb-true maxNarrowSource source t) in omega arith))
+    (λ t. absurd (let z : textNumber false text ≡ 43 = large-number text source pool e (ltb-true maxNarrowSource source t) in omega arith))
     (λ t. shorter text source pool e (ltb-false maxNarrowSource source t))
-narrow-size text Invalid e n = let z : lineNumber false text ≡ 16 = stray-line false text .1 e in absurd (omega arith)
+narrow-size text Invalid e n = let z : textNumber false text ≡ 16 = stray-text false text .1 e in absurd (omega arith)
 
 -- ---- enough room
 
@@ -72,7 +73,7 @@ length-whole l = length-append (l .text) (endOf (l .ended))
 
 -- E says that so much room is enough for so many characters: then there is room for the first line, and enough for those after it
 module _ (wide : Bool) (E : ℕ → ℕ → Type 0)
-    (step : (l : Line) → lineNumber wide (l .text) ≡ 0 → (n room : ℕ) → E (length (wholeLine l) + n) room
+    (step : (l : Line) → textNumber wide (l .text) ≡ 0 → (n room : ℕ) → E (length (wholeLine l) + n) room
     → (length (writtenOf wide l) ≤ room) × E n (room - length (writtenOf wide l))) where
   never-short : (ls : List Line) (room k : ℕ) → E (length (joined wholeLine ls)) room → convertedLines wide room k ls .number ≡ 46 → ⊥
   never-short [] room k h e = let z : _≡_ {A = ℕ} 0 46 = sym (ap (λ (c : Conversion). c .number) (no-lines wide room k)) ∙ e in omega arith
@@ -81,75 +82,33 @@ module _ (wide : Bool) (E : ℕ → ℕ → Type 0)
       whole : E (length (wholeLine l) + length (joined wholeLine ls)) room
       whole = unfold joined in rw (← length-append (wholeLine l) (joined wholeLine ls)) h
 
-      go : Accepted wide room l ⊎ (RoomRefused wide room l ⊎ TextRefused wide room l)
+      go : LineAccepted wide room l ⊎ (RoomRefused wide room l ⊎ TextRefused wide room l)
           → ((n : ℕ) → E (length (joined wholeLine ls)) n → convertedLines wide n (suc k) ls .number ≡ 46 → ⊥) → ⊥
       go (inl a) rest =
           let c = convertedLines wide (room - length (writtenOf wide l)) (suc k) ls in
           let more = goes-on wide room k l ls (no-refusal wide room l (a .text) (a .fits)) in
           rest (room - length (writtenOf wide l)) (step l (a .text) (length (joined wholeLine ls)) room whole .1)
-          (sym (ap (λ (c : Conversion). c .number) more ∙ number-after (writtenOf wide l) c) ∙ e)
+          (sym (ap (λ (c : Conversion). c .number) more ∙ number-with (writtenOf wide l) c) ∙ e)
       go (inr (inl r)) rest = omega (arith, step l (r .text) (length (joined wholeLine ls)) room whole .0, r .short)
       go (inr (inr r)) rest =
-          let stop = stops wide room k l ls (λ z. r .refused (sym (r .number) ∙ z)) in
+          let stop = stops wide room k l ls (λ z. r .some (sym (r .number) ∙ z)) in
           text-not-46 wide room l (sym (r .number) ∙ sym (ap (λ (c : Conversion). c .number) stop) ∙ e)
 
 pub enough-room : EnoughRoomLaw
 unfolding conversion
 enough-room room log = record {
-  narrow = λ h. never-short false (λ n room. n ≤ room) narrow-step (linesOf log) room 1 (rw (lines-cut log .whole) h);
-  wide = λ h. never-short true (λ n room. 4 * n ≤ 3 * room) wide-step (linesOf log) room 1 (rw (lines-cut log .whole) h);
+  narrow = λ h. never-short false (λ n room. n ≤ room) narrow-step (logLines log) room 1 (rw (lines-cut log .whole) h);
+  wide = λ h. never-short true (λ n room. 4 * n ≤ 3 * room) wide-step (logLines log) room 1 (rw (lines-cut log .whole) h);
 }
   where
-    narrow-step : (l : Line) → lineNumber false (l .text) ≡ 0 → (n room : ℕ) → length (wholeLine l) + n ≤ room
+    narrow-step : (l : Line) → textNumber false (l .text) ≡ 0 → (n room : ℕ) → length (wholeLine l) + n ≤ room
         → (length (writtenOf false l) ≤ room) × (n ≤ room - length (writtenOf false l))
     narrow-step l p n room h =
         let size = narrow-size (l .text) (frameOfText (l .text)) refl p in
         (omega (arith, size, length-whole l, length-written false l), omega (arith, size, length-whole l, length-written false l))
 
-    wide-step : (l : Line) → lineNumber true (l .text) ≡ 0 → (n room : ℕ) → 4 * (length (wholeLine l) + n) ≤ 3 * room
+    wide-step : (l : Line) → textNumber true (l .text) ≡ 0 → (n room : ℕ) → 4 * (length (wholeLine l) + n) ≤ 3 * room
         → (length (writtenOf true l) ≤ room) × (4 * n ≤ 3 * (room - length (writtenOf true l)))
     wide-step l p n room h =
         let size = wide-size (l .text) (frameOfText (l .text)) refl p in
         (omega (arith, size, length-whole l, length-written true l), omega (arith, size, length-whole l, length-written true l))
-
--- ---- more room changes nothing, where there was enough
-
--- where the first line is accepted, or its text is refused
-module _ (wide : Bool) (room other k : ℕ) (l : Line) (ls : List Line) where
-  abbrev rest : ℕ → Conversion
-  rest n = convertedLines wide (n - length (writtenOf wide l)) (suc k) ls
-
-  both-go-on : Accepted wide room l → length (convertedLines wide room k (l ∷ ls) .written) ≤ other
-      → (length (rest room .written) ≤ other - length (writtenOf wide l) → rest other ≡ rest room)
-      → convertedLines wide other k (l ∷ ls) ≡ convertedLines wide room k (l ∷ ls)
-  both-go-on a h same =
-      let here = goes-on wide room k l ls (no-refusal wide room l (a .text) (a .fits)) in
-      let size : length (convertedLines wide room k (l ∷ ls) .written) ≡ length (writtenOf wide l) + length (rest room .written) =
-      ap (λ (c : Conversion). length (c .written)) here ∙ length-after (writtenOf wide l) (rest room) in
-      goes-on wide other k l ls (no-refusal wide other l (a .text) (omega (arith, h, size)))
-      ∙ ap (after (writtenOf wide l)) (same (omega (arith, h, size))) ∙ sym here
-
-  both-stop : TextRefused wide room l → convertedLines wide other k (l ∷ ls) ≡ convertedLines wide room k (l ∷ ls)
-  both-stop r =
-      let same : refusalOf wide other l ≡ refusalOf wide room l = refusal-text wide other l (r .refused) ∙ sym (r .number) in
-      let some : refusalOf wide room l ≡ 0 → ⊥ = λ z. r .refused (sym (r .number) ∙ z) in
-      stops wide other k l ls (λ z. some (sym same ∙ z)) ∙ ap (λ (n : ℕ). record { written = []; number = n; line = k }) same
-      ∙ sym (stops wide room k l ls some)
-
-pub other-room : (wide : Bool) (room other k : ℕ) (ls : List Line) → (convertedLines wide room k ls .number ≡ 46 → ⊥)
-    → length (convertedLines wide room k ls .written) ≤ other → convertedLines wide other k ls ≡ convertedLines wide room k ls
-other-room wide room other k [] n h = no-lines wide other k ∙ sym (no-lines wide room k)
-other-room wide room other k (l ∷ ls) n h =
-    go (which wide room l) (other-room wide (room - length (writtenOf wide l)) (other - length (writtenOf wide l)) (suc k) ls)
-  where
-    go : Accepted wide room l ⊎ (RoomRefused wide room l ⊎ TextRefused wide room l)
-        → ((rest wide room other k l ls room .number ≡ 46 → ⊥) → length (rest wide room other k l ls room .written) ≤ other - length (writtenOf wide l)
-        → rest wide room other k l ls other ≡ rest wide room other k l ls room)
-        → convertedLines wide other k (l ∷ ls) ≡ convertedLines wide room k (l ∷ ls)
-    go (inl a) same =
-        let here = goes-on wide room k l ls (no-refusal wide room l (a .text) (a .fits)) in
-        both-go-on wide room other k l ls a h
-        (same (λ e. n (ap (λ (c : Conversion). c .number) here ∙ number-after (writtenOf wide l) (rest wide room other k l ls room) ∙ e)))
-    go (inr (inl r)) same =
-        absurd (n (ap (λ (c : Conversion). c .number) (stops wide room k l ls (λ z. omega (arith, z, r .number))) ∙ r .number))
-    go (inr (inr r)) same = both-stop wide room other k l ls r

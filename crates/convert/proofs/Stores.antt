@@ -9,21 +9,27 @@ use native.Mathlib.Numerals.{add-one}
 use native.Mathlib.Omega.{arith}
 use lib.Dec.{ltb}
 use lib.ListN.{length, take, drop, set, length-append, length-drop, take-append-drop, drop-of-length-le}
-use lib.Seq.{set-split, take-at, drop-at, drop-drop, take-nil}
+use lib.Seq.{set-split, take-at, drop-at, drop-drop}
 use borrow.Author.Tests.{lt-ltb, le-ltb}
 use Rattle.laws.specs.Lists.{overwrite}
 use Rattle.laws.proofs.Copy.{overwrite-fits, part-end}
+use Rattle.bench.proofs.Buffers.{overwrite-nothing}
 use Rattle.convert.specs.Logs.{endOf}
 use Rattle.convert.specs.Promises.{number, StoresText, PartsStored, EndStored}
 use Rattle.convert.specs.declared.answer.Answer.the-variants.{Converted, NoRoom}
 
-module _ (out : List ℕ) (at : ℕ) (ended : Bool) where
-  end-one : ended ≡ true → length (endOf ended) ≡ 1
-  unfolding endOf
-  end-one e = rw e
+-- how long an end is
+pub end-one : (ended : Bool) → ended ≡ true → length (endOf ended) ≡ 1
+unfolding endOf
+end-one ended e = rw e
 
+pub end-none : (ended : Bool) → ended ≡ false → length (endOf ended) ≡ 0
+unfolding endOf
+end-none ended e = rw e
+
+module _ (out : List ℕ) (at : ℕ) (ended : Bool) where
   pub end-room : at + length (endOf ended) ≤ length out → ended ≡ true → at < length out
-  end-room h e = omega (arith, end-one e)
+  end-room h e = omega (arith, end-one ended e)
 
   pub end-stored : at + length (endOf ended) ≤ length out → ended ≡ true → EndStored ended at out (set out at 10)
   unfolding endOf
@@ -54,10 +60,6 @@ parts-stored out front rest d ys h e q =
 
 -- ---- a text and its end, if there is room
 
-pub overwrite-none : (d : List ℕ) → overwrite d [] ≡ d
-unfolding overwrite
-overwrite-none d = rw (take-nil (length d))
-
 module _ (out front rest : List ℕ) (ended : Bool) where
   abbrev whole : List ℕ
   whole = (front ++ rest) ++ endOf ended
@@ -73,7 +75,7 @@ module _ (out front rest : List ℕ) (ended : Bool) where
       → StoresText whole (record { answer = NoRoom; written = 0 }) out out
   put-nothing size e h =
       let t : ltb (length out) (length whole) ≡ true = lt-ltb (length out) (length whole) (omega (arith, length-whole)) in
-      rw t (record { number-is = unfold number in refl; written-is = refl; buffer-is = sym (overwrite-none out) })
+      rw t (record { number-is = unfold number in refl; written-is = refl; buffer-is = sym (overwrite-nothing out) })
 
   -- d is the buffer with the parts in it, and d′ with the end too
   module _ (d d′ : List ℕ) (p : PartsStored front rest out d) (q : EndStored ended before d d′) where

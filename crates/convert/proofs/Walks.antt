@@ -12,34 +12,35 @@ use borrow.Author.Tests.{eq-eqb, ne-eqb}
 use Rattle.laws.specs.Lists.{overwrite}
 use Rattle.laws.proofs.Copy.{overwrite-fits, part-end}
 use Rattle.bench.specs.Input.{usedBy}
+use Rattle.bench.proofs.Buffers.{overwrite-nothing}
 use Rattle.bench.proofs.Lines.{used-more, used-fits}
-use Rattle.convert.specs.Logs.{Line, linesOf, writtenOf, refusalOf, Conversion, finished, after, convertedLines, conversion}
+use Rattle.convert.specs.Logs.{Line, logLines, writtenOf, refusalOf, Conversion, allWritten, withBytes, convertedLines, conversion}
 use Rattle.convert.specs.Promises.{number, lineWrites, Gives, firstOf, ConvertsFirst}
-use Rattle.convert.specs.declared.line.FirstOutcome.{FirstOutcome}
+use Rattle.convert.specs.declared.line.FirstAnswer.{FirstAnswer}
 use Rattle.convert.specs.declared.answer.Answer.the-variants.{Converted}
 use Rattle.convert.proofs.LogLines.{lines-none, lines-first}
-use Rattle.convert.proofs.Conversions.{accepted, goes-on, stops, no-lines, after-after, number-after}
-use Rattle.convert.proofs.Stores.{overwrite-none}
+use Rattle.convert.proofs.Conversions.{line-accepted, goes-on, stops, no-lines, with-with, number-with}
+use Rattle.convert.proofs.FirstRefused.{first-refused}
 
 -- what was done of a log, up to a place: so many bytes are written, and what is left to do comes after them
 pub record Walked (wide : Bool) (log out₀ out : List ℕ) (at line written : ℕ) : Type 0 where
   pub within : at ≤ length log
   pub room : written ≤ length out₀
   pub kept : length out ≡ length out₀
-  pub counted : line ≤ at + 1
+  pub lines-few : line ≤ at + 1
   pub rest : drop written out ≡ drop written out₀
   pub whole :
       conversion wide (length out₀) log
-      ≡ after (take written out) (convertedLines wide (length out₀ - written) line (linesOf (drop at log)))
+      ≡ withBytes (take written out) (convertedLines wide (length out₀ - written) line (logLines (drop at log)))
 
 pub walked-none : (wide : Bool) (log out : List ℕ) → Walked wide log out out 0 1 0
 walked-none wide log out = record {
   within = omega arith;
   room = omega arith;
   kept = refl;
-  counted = omega arith;
+  lines-few = omega arith;
   rest = refl;
-  whole = unfold conversion after in (let z : length out - 0 ≡ length out = omega arith in ap (λ (n : ℕ). convertedLines wide n 1 (linesOf log)) (sym z));
+  whole = unfold conversion withBytes in (let z : length out - 0 ≡ length out = omega arith in ap (λ (n : ℕ). convertedLines wide n 1 (logLines log)) (sym z));
 }
 
 -- what a buffer holds where its front is written and the rest is as it was
@@ -53,9 +54,9 @@ done-number : number Converted ≡ 0
 unfolding number
 done-number = refl
 
-line-after : (bytes : List ℕ) (c : Conversion) → after bytes c .line ≡ c .line
-unfolding after
-line-after bytes c = refl
+line-with : (bytes : List ℕ) (c : Conversion) → withBytes bytes c .line ≡ c .line
+unfolding withBytes
+line-with bytes c = refl
 
 -- what one line writes, by its number
 module _ (wide : Bool) (room : ℕ) (l : Line) where
@@ -69,8 +70,8 @@ module _ (wide : Bool) (room : ℕ) (l : Line) where
 
 module _ (wide : Bool) (log out₀ out : List ℕ) (at line written : ℕ) (w : Walked wide log out₀ out at line written) where
   -- what is left of the log, and of the buffer
-  abbrev left : List ℕ
-  left = drop at log
+  abbrev ahead : List ℕ
+  ahead = drop at log
 
   abbrev part : List ℕ
   part = take (length out - written) (drop written out)
@@ -85,67 +86,68 @@ module _ (wide : Bool) (log out₀ out : List ℕ) (at line written : ℕ) (w : 
   front-size = length-take-le written out (omega (arith, w .room, w .kept))
 
   -- a conversion that comes to what is written so far
-  so-far : (c : Conversion) → conversion wide (length out₀) log ≡ after (take written out) c → c .written ≡ []
+  so-far : (c : Conversion) → conversion wide (length out₀) log ≡ withBytes (take written out) c → c .written ≡ []
       → (written ≡ length (conversion wide (length out₀) log .written)) × (out ≡ overwrite out₀ (conversion wide (length out₀) log .written))
   so-far c e none =
       let all : conversion wide (length out₀) log .written ≡ take written out =
-      ap (λ (x : Conversion). x .written) e ∙ (unfold after in ap (λ (x : List ℕ). take written out ++ x) none ∙ append-nil (take written out)) in
+      ap (λ (x : Conversion). x .written) e ∙ (unfold withBytes in ap (λ (x : List ℕ). take written out ++ x) none ∙ append-nil (take written out)) in
       (sym (ap length all ∙ front-size), front-is out₀ out written (w .room) (w .kept) (w .rest) ∙ ap (overwrite out₀) (sym all))
 
   pub walk-ends : length log ≤ at → Gives (conversion wide (length out₀) log) (record { answer = Converted; line = 0; written = written }) out₀ out
   walk-ends h =
-      let none : left ≡ [] = drop-of-length-le log {i = at} h in
-      let e : conversion wide (length out₀) log ≡ after (take written out) finished =
-      w .whole ∙ ap (after (take written out)) (ap (λ (x : List ℕ). convertedLines wide (length out₀ - written) line (linesOf x)) none
+      let none : ahead ≡ [] = drop-of-length-le log {i = at} h in
+      let e : conversion wide (length out₀) log ≡ withBytes (take written out) (allWritten []) =
+      w .whole ∙ ap (withBytes (take written out)) (ap (λ (x : List ℕ). convertedLines wide (length out₀ - written) line (logLines x)) none
       ∙ ap (convertedLines wide (length out₀ - written) line) lines-none ∙ no-lines wide (length out₀ - written) line) in
-      let s = so-far finished e refl in
+      let s = so-far (allWritten []) e refl in
       record {
-        number-is = done-number ∙ sym (ap (λ (x : Conversion). x .number) e ∙ number-after (take written out) finished);
-        line-is = sym (ap (λ (x : Conversion). x .line) e ∙ line-after (take written out) finished);
+        number-is = done-number ∙ sym (ap (λ (x : Conversion). x .number) e ∙ number-with (take written out) (allWritten []));
+        line-is = sym (ap (λ (x : Conversion). x .line) e ∙ line-with (take written out) (allWritten []));
         written-is = s .0;
+        fits = first-refused wide (length out₀) log .fits;
         buffer-is = s .1;
       }
 
   -- a line more
-  module _ (inside : at < length log) (o : FirstOutcome) (part′ : List ℕ)
+  module _ (inside : at < length log) (o : FirstAnswer) (part′ : List ℕ)
       (g : ConvertsFirst wide (take (length log - at) (drop at log)) o part part′) where
-    rest-is : take (length log - at) (drop at log) ≡ left
+    rest-is : take (length log - at) (drop at log) ≡ ahead
     rest-is = part-end at log
 
-    left-size : length left ≡ length log - at
+    left-size : length ahead ≡ length log - at
     left-size = length-drop at log
 
-    used-is : o .used ≡ usedBy left
+    used-is : o .used ≡ usedBy ahead
     used-is = g .used-is ∙ ap usedBy rest-is
 
     pub used-some : 0 < o .used
-    used-some = omega (arith, used-is, used-more left (omega (arith, left-size)))
+    used-some = omega (arith, used-is, used-more ahead (omega (arith, left-size)))
 
     pub at-within : at + o .used ≤ length log
-    at-within = omega (arith, used-is, used-fits left, left-size)
+    at-within = omega (arith, used-is, used-fits ahead, left-size)
 
     abbrev here : Line
-    here = firstOf left
+    here = firstOf ahead
 
     abbrev behind : List Line
-    behind = linesOf (drop (at + o .used) log)
+    behind = logLines (drop (at + o .used) log)
 
     same-here : firstOf (take (length log - at) (drop at log)) ≡ here
     same-here = ap firstOf rest-is
 
-    lines-here : linesOf left ≡ here ∷ behind
+    lines-here : logLines ahead ≡ here ∷ behind
     lines-here =
-        lines-first left (omega (arith, left-size))
-        ∙ ap (λ (x : List ℕ). here ∷ linesOf x) (ap (λ (n : ℕ). drop n left) (sym used-is) ∙ drop-drop (o .used) at log)
+        lines-first ahead (omega (arith, left-size))
+        ∙ ap (λ (x : List ℕ). here ∷ logLines x) (ap (λ (n : ℕ). drop n ahead) (sym used-is) ∙ drop-drop (o .used) at log)
 
     -- what is left to do begins with this line
     abbrev todo : Conversion
     todo = convertedLines wide (length part) line (here ∷ behind)
 
-    whole-here : conversion wide (length out₀) log ≡ after (take written out) todo
+    whole-here : conversion wide (length out₀) log ≡ withBytes (take written out) todo
     whole-here =
         w .whole
-        ∙ ap₂ (λ (k : ℕ) (ls : List Line). after (take written out) (convertedLines wide k line ls)) (sym part-room) lines-here
+        ∙ ap₂ (λ (k : ℕ) (ls : List Line). withBytes (take written out) (convertedLines wide k line ls)) (sym part-room) lines-here
 
     number-is : number (o .answer) ≡ refusalOf wide (length part) here
     number-is = g .converts .number-is ∙ ap (refusalOf wide (length part)) same-here
@@ -165,7 +167,7 @@ module _ (wide : Bool) (log out₀ out : List ℕ) (at line written : ℕ) (w : 
       same-out : out′ ≡ out
       same-out =
           let none = bytes-are ∙ writes-none wide (length part) here some in
-          let e : part′ ≡ part = g .converts .buffer-is ∙ ap (overwrite part) none ∙ overwrite-none part in
+          let e : part′ ≡ part = g .converts .buffer-is ∙ ap (overwrite part) none ∙ overwrite-nothing part in
           rw (e, take-append-drop (length out - written) (drop written out)) (take-append-drop written out)
 
       pub walk-kept : length out′ ≡ length out₀
@@ -174,12 +176,13 @@ module _ (wide : Bool) (log out₀ out : List ℕ) (at line written : ℕ) (w : 
       pub walk-stops : Gives (conversion wide (length out₀) log) (record { answer = o .answer; line = line; written = written }) out₀ out′
       walk-stops =
           let end = stops wide (length part) line here behind some in
-          let e = whole-here ∙ ap (after (take written out)) end in
+          let e = whole-here ∙ ap (withBytes (take written out)) end in
           let s = so-far (record { written = []; number = refusalOf wide (length part) here; line = line }) e refl in
           record {
-            number-is = number-is ∙ sym (ap (λ (x : Conversion). x .number) e ∙ number-after (take written out) _);
-            line-is = sym (ap (λ (x : Conversion). x .line) e ∙ line-after (take written out) _);
+            number-is = number-is ∙ sym (ap (λ (x : Conversion). x .number) e ∙ number-with (take written out) _);
+            line-is = sym (ap (λ (x : Conversion). x .line) e ∙ line-with (take written out) _);
             written-is = s .0;
+            fits = first-refused wide (length out₀) log .fits;
             buffer-is = same-out ∙ s .1;
           }
 
@@ -193,7 +196,7 @@ module _ (wide : Bool) (log out₀ out : List ℕ) (at line written : ℕ) (w : 
       new = writtenOf wide here
 
       new-fits : length new ≤ length part
-      new-fits = accepted wide (length part) here none .fits
+      new-fits = line-accepted wide (length part) here none .fits
 
       new-size : o .written ≡ length new
       new-size = g .converts .written-is ∙ ap length (bytes-are ∙ writes-all wide (length part) here none)
@@ -214,14 +217,14 @@ module _ (wide : Bool) (log out₀ out : List ℕ) (at line written : ℕ) (w : 
       front-now = ap (take (written + o .written)) out-is ∙ take-at (take written out ++ new) _ (written + o .written) new-front
 
       whole-more : conversion wide (length out₀) log
-          ≡ after (take (written + o .written) out′) (convertedLines wide (length out₀ - (written + o .written)) (line + 1) behind)
+          ≡ withBytes (take (written + o .written) out′) (convertedLines wide (length out₀ - (written + o .written)) (line + 1) behind)
       whole-more =
           let k : length part - length new ≡ length out₀ - (written + o .written) = omega (arith, part-room, new-size) in
           let next : suc line ≡ line + 1 = omega arith in
-          whole-here ∙ ap (after (take written out)) (goes-on wide (length part) line here behind none)
-          ∙ after-after (take written out) new (convertedLines wide (length part - length new) (suc line) behind)
-          ∙ ap₂ (λ (n m : ℕ). after (take written out ++ new) (convertedLines wide n m behind)) k next
-          ∙ ap (λ (x : List ℕ). after x (convertedLines wide (length out₀ - (written + o .written)) (line + 1) behind)) (sym front-now)
+          whole-here ∙ ap (withBytes (take written out)) (goes-on wide (length part) line here behind none)
+          ∙ with-with (take written out) new (convertedLines wide (length part - length new) (suc line) behind)
+          ∙ ap₂ (λ (n m : ℕ). withBytes (take written out ++ new) (convertedLines wide n m behind)) k next
+          ∙ ap (λ (x : List ℕ). withBytes x (convertedLines wide (length out₀ - (written + o .written)) (line + 1) behind)) (sym front-now)
 
       pub walk-on : Walked wide log out₀ out′ (at + o .used) (line + 1) (written + o .written)
       walk-on = record {
@@ -230,7 +233,7 @@ module _ (wide : Bool) (log out₀ out : List ℕ) (at line written : ℕ) (w : 
         kept =
             ap length out-is ∙ length-append (take written out ++ new) (drop (written + o .written) out₀)
             ∙ omega (arith, new-front, length-drop (written + o .written) out₀, new-fits, new-size, part-room, w .room);
-        counted = omega (arith, w .counted, used-some);
+        lines-few = omega (arith, w .lines-few, used-some);
         rest = ap (drop (written + o .written)) out-is ∙ drop-at (take written out ++ new) _ (written + o .written) new-front;
         whole = whole-more;
       }

@@ -6,8 +6,9 @@ use mathlib.Core.List.{List, [], _∷_, _++_, map}
 use Prim.Native.Nat.{ℕ}
 use lib.ListN.{replicate}
 use Rattle.bench.specs.Examples.{ascii}
-use Rattle.convert.specs.Texts.{lineNumber, converted}
-use Rattle.convert.specs.Logs.{Conversion, conversion, inPieces}
+use Rattle.convert.specs.Texts.{textNumber, converted}
+use Rattle.convert.specs.Logs.{Conversion, conversion}
+use Rattle.convert.specs.Pieces.{inPieces}
 
 -- ---- lines
 
@@ -22,80 +23,83 @@ FramesRow =
     ≡ ascii "05000703A1B2" ∷ ascii "02000000050010" ∷ ascii "0300000005FF" ∷ ascii "0400000005" ∷ ascii "05000703A1B2" ∷ [])
     × (map (converted false) eachFrame
     ≡ ascii "010703A1B2" ∷ ascii "02000000050010" ∷ ascii "0300000005FF" ∷ ascii "0400000005" ∷ ascii "010703A1B2" ∷ [])
-    × (map (lineNumber true) eachFrame ≡ 0 ∷ 0 ∷ 0 ∷ 0 ∷ 0 ∷ [])
-    × (map (lineNumber false) eachFrame ≡ 0 ∷ 0 ∷ 0 ∷ 0 ∷ 0 ∷ [])
+    × (map (textNumber true) eachFrame ≡ 0 ∷ 0 ∷ 0 ∷ 0 ∷ 0 ∷ [])
+    × (map (textNumber false) eachFrame ≡ 0 ∷ 0 ∷ 0 ∷ 0 ∷ 0 ∷ [])
 
--- sources 0, 16, 254, 255, 256 and 65,535, in 01 and in 05; the digits of the pool and the data are not looked at
+-- sources 0, 16 and 255 to 05; 0, 16, 254 and 255 to 01, 256 and 65,535 to 01 and to 05; pools above 31 and no data make frames too
 abbrev pub SourcesRow : Type 0
 SourcesRow =
     (map (converted true) (ascii "010003A1" ∷ ascii "011020" ∷ ascii "01FFFF05" ∷ [])
     ≡ ascii "05000003A1" ∷ ascii "05001020" ∷ ascii "0500FFFF05" ∷ [])
     × (map (converted false) (ascii "05000003A1" ∷ ascii "05001020" ∷ ascii "0500FEFF05" ∷ ascii "0500FFFF05" ∷ [])
     ≡ ascii "010003A1" ∷ ascii "011020" ∷ ascii "01FEFF05" ∷ ascii "01FFFF05" ∷ [])
-    × (map (lineNumber false) (ascii "05000003A1" ∷ ascii "0500FE03A1" ∷ ascii "0500FF03A1" ∷ ascii "05010003A1" ∷ ascii "05FFFF03A1" ∷ [])
+    × (map (textNumber false) (ascii "05000003A1" ∷ ascii "0500FE03A1" ∷ ascii "0500FF03A1" ∷ ascii "05010003A1" ∷ ascii "05FFFF03A1" ∷ [])
     ≡ 0 ∷ 0 ∷ 0 ∷ 43 ∷ 43 ∷ [])
-    × (map (lineNumber true) (ascii "05010003A1" ∷ ascii "05FFFF03A1" ∷ []) ≡ 0 ∷ 0 ∷ [])
+    × (map (textNumber true) (ascii "05010003A1" ∷ ascii "05FFFF03A1" ∷ []) ≡ 0 ∷ 0 ∷ [])
 
--- no frame: nothing, another first byte, small letters, an odd digit, a carriage return, a field missing; whichever is wanted
+-- no frame, whichever is wanted: nothing, another first byte, small letters, an odd number of digits, a carriage return, a field missing; the last
+-- two have a source of 256, and come to 16 before 43
 abbrev pub NoFrameRow : Type 0
 NoFrameRow =
-    let texts = [] ∷ ascii "06000703A1" ∷ ascii "010703a1" ∷ ascii "010703A" ∷ (ascii "010703A1" ++ (13 ∷ [])) ∷ ascii "0107" ∷ ascii "050007" ∷ [] in
-    (map (lineNumber true) texts ≡ replicate 7 16) × (map (lineNumber false) texts ≡ replicate 7 16)
+    let texts = [] ∷ ascii "06000703A1" ∷ ascii "010703a1" ∷ ascii "010703A" ∷ (ascii "010703A1" ++ (13 ∷ [])) ∷ ascii "0107" ∷ ascii "050007"
+    ∷ ascii "050100" ∷ ascii "05010003A" ∷ [] in
+    (map (textNumber true) texts ≡ replicate 9 16) × (map (textNumber false) texts ≡ replicate 9 16)
 
 -- the longest lines: 01 with 256 characters becomes 05 with 258, and back; 01 with 257 and 258 is no frame, nor is 05 with 257, 259 and 260
 abbrev pub LongRow : Type 0
 LongRow =
     (converted true (ascii "0107" ++ replicate 252 48) ≡ ascii "050007" ++ replicate 252 48)
     × (converted false (ascii "050007" ++ replicate 252 48) ≡ ascii "0107" ++ replicate 252 48)
-    × (map (λ (n : ℕ). lineNumber true (ascii "0107" ++ replicate n 48)) (252 ∷ 253 ∷ 254 ∷ []) ≡ 0 ∷ 16 ∷ 16 ∷ [])
-    × (map (λ (n : ℕ). lineNumber false (ascii "050007" ++ replicate n 48)) (250 ∷ 251 ∷ 252 ∷ 253 ∷ 254 ∷ []) ≡ 0 ∷ 16 ∷ 0 ∷ 16 ∷ 16 ∷ [])
+    × (map (λ (n : ℕ). textNumber true (ascii "0107" ++ replicate n 48)) (252 ∷ 253 ∷ 254 ∷ []) ≡ 0 ∷ 16 ∷ 16 ∷ [])
+    × (map (λ (n : ℕ). textNumber false (ascii "050007" ++ replicate n 48)) (250 ∷ 251 ∷ 252 ∷ 253 ∷ 254 ∷ []) ≡ 0 ∷ 16 ∷ 0 ∷ 16 ∷ 16 ∷ [])
 
 -- ---- logs
 
 -- what a log comes to
-abbrev pub came : List ℕ → ℕ → ℕ → Conversion
-came written number line = record { written = written; number = number; line = line }
+abbrev pub cameTo : List ℕ → ℕ → ℕ → Conversion
+cameTo written number line = record { written = written; number = number; line = line }
 
--- an empty log, with no room too; a line feed alone; a last line with and without a line feed; a carriage return before it; an empty line between
+-- an empty log; a line feed alone; a last line with and without a line feed; a carriage return before it; an empty line between
 abbrev pub EdgesRow : Type 0
 EdgesRow =
     map (conversion true 100)
     ([] ∷ ascii "\n" ∷ ascii "010703A1\n" ∷ ascii "010703A1" ∷ ascii "010703A1\r\n" ∷ ascii "010703A1\n\n010703A1\n" ∷ [])
-    ≡ came [] 0 0 ∷ came [] 16 1 ∷ came (ascii "05000703A1\n") 0 0 ∷ came (ascii "05000703A1") 0 0 ∷ came [] 16 1
-    ∷ came (ascii "05000703A1\n") 16 2 ∷ []
+    ≡ cameTo [] 0 0 ∷ cameTo [] 16 1 ∷ cameTo (ascii "05000703A1\n") 0 0 ∷ cameTo (ascii "05000703A1") 0 0 ∷ cameTo [] 16 1
+    ∷ cameTo (ascii "05000703A1\n") 16 2 ∷ []
 
 -- the first refused line ends the work: the lines before it are written, and those after it are not looked at
 abbrev pub FirstRefusedRow : Type 0
 FirstRefusedRow =
     map (conversion false 100)
     (ascii "05000703A1\n05010003A1\n0G\n" ∷ ascii "05000703A1\n0G\n05010003A1\n" ∷ ascii "0400000000\n05000703A1\n010703A1\n05010003A1" ∷ [])
-    ≡ came (ascii "010703A1\n") 43 2 ∷ came (ascii "010703A1\n") 16 2 ∷ came (ascii "0400000000\n010703A1\n010703A1\n") 43 4 ∷ []
+    ≡ cameTo (ascii "010703A1\n") 43 2 ∷ cameTo (ascii "010703A1\n") 16 2 ∷ cameTo (ascii "0400000000\n010703A1\n010703A1\n") 43 4 ∷ []
 
 -- two lines, the second without a line feed and with it, into room for both, for all but one byte, for the first alone and for less
 abbrev pub RoomRow : Type 0
 RoomRow =
     (map (λ (room : ℕ). conversion true room (ascii "010703A1\n010703A1")) (21 ∷ 20 ∷ 11 ∷ 10 ∷ 0 ∷ [])
-    ≡ came (ascii "05000703A1\n05000703A1") 0 0 ∷ came (ascii "05000703A1\n") 46 2 ∷ came (ascii "05000703A1\n") 46 2 ∷ came [] 46 1 ∷ came [] 46 1
+    ≡ cameTo (ascii "05000703A1\n05000703A1") 0 0 ∷ cameTo (ascii "05000703A1\n") 46 2 ∷ cameTo (ascii "05000703A1\n") 46 2 ∷ cameTo [] 46 1 ∷ cameTo [] 46 1
     ∷ [])
     × (map (λ (room : ℕ). conversion true room (ascii "010703A1\n010703A1\n")) (22 ∷ 21 ∷ [])
-    ≡ came (ascii "05000703A1\n05000703A1\n") 0 0 ∷ came (ascii "05000703A1\n") 46 2 ∷ [])
+    ≡ cameTo (ascii "05000703A1\n05000703A1\n") 0 0 ∷ cameTo (ascii "05000703A1\n") 46 2 ∷ [])
 
 -- in no room: 16 before 46, 43 before 46, and 46; an empty log needs none
 abbrev pub OrderRow : Type 0
 OrderRow =
     map (conversion false 0) ([] ∷ ascii "0G\n" ∷ ascii "05010003A1\n" ∷ ascii "0500FF03A1\n" ∷ ascii "0400000000" ∷ [])
-    ≡ came [] 0 0 ∷ came [] 16 1 ∷ came [] 43 1 ∷ came [] 46 1 ∷ came [] 46 1 ∷ []
+    ≡ cameTo [] 0 0 ∷ cameTo [] 16 1 ∷ cameTo [] 43 1 ∷ cameTo [] 46 1 ∷ cameTo [] 46 1 ∷ []
 
--- the room that is always enough can't be less: four thirds of 6 characters, and one byte less
+-- one shortest event: four thirds of its 6 characters are enough, and a byte less is too little
 abbrev pub EnoughRow : Type 0
-EnoughRow = map (λ (room : ℕ). conversion true room (ascii "010703")) (8 ∷ 7 ∷ []) ≡ came (ascii "05000703") 0 0 ∷ came [] 46 1 ∷ []
+EnoughRow = map (λ (room : ℕ). conversion true room (ascii "010703")) (8 ∷ 7 ∷ []) ≡ cameTo (ascii "05000703") 0 0 ∷ cameTo [] 46 1 ∷ []
 
--- pieces: a refused line's number counts the lines of the pieces before it; each piece has the room anew
+-- pieces: a refused line counts those of the pieces before it, and ends the work; each piece has the room anew; an empty one between
 abbrev pub PiecesRow : Type 0
 PiecesRow =
-    (inPieces true 22 0 (ascii "010703A1\n010703A1\n" ∷ ascii "010703A1\n0G" ∷ []) ≡ came (ascii "05000703A1\n05000703A1\n05000703A1\n") 16 4)
-    × (inPieces true 11 0 (ascii "010703A1\n" ∷ ascii "010703A1\n" ∷ ascii "010703A1" ∷ [])
-    ≡ came (ascii "05000703A1\n05000703A1\n05000703A1") 0 0)
+    (inPieces true 22 0 (ascii "010703A1\n010703A1\n" ∷ ascii "010703A1\n0G\n" ∷ ascii "010703A1\n" ∷ [])
+    ≡ cameTo (ascii "05000703A1\n05000703A1\n05000703A1\n") 16 4)
+    × (inPieces true 11 0 (ascii "010703A1\n" ∷ [] ∷ ascii "010703A1\n" ∷ ascii "010703A1" ∷ [])
+    ≡ cameTo (ascii "05000703A1\n05000703A1\n05000703A1") 0 0)
 
 -- the rows together
 pub record Examples : Type 0 where

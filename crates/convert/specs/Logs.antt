@@ -1,14 +1,14 @@
--- A whole log, line by line, into a buffer with so much room; and a log that comes in pieces.
+-- A whole log, line by line, into a buffer with so much room. 'Number' is 16, 43 or 46, and 0 where nothing is refused; 'line' is a line's place, from 1.
 -- Assumes nothing.
 use mathlib.Core.Bool.{Bool, true, false, cond}
 use mathlib.Core.List.{List, [], _∷_, _++_}
-use Prim.Native.Nat.{ℕ, suc, _+_, _-_}
+use Prim.Native.Nat.{ℕ, suc, _-_}
 use lib.Dec.{eqb, ltb}
 use lib.ListN.{length}
 use Rattle.laws.specs.Refusals.{refuse}
 use Rattle.pools.specs.Refusals.{andThen}
 use Rattle.bench.specs.Lines.{lineFeed}
-use Rattle.convert.specs.Texts.{lineNumber, converted}
+use Rattle.convert.specs.Texts.{textNumber, converted}
 
 -- ---- lines and their ends
 
@@ -41,8 +41,8 @@ linesFrom sofar (c ∷ log) =
     cond (eqb c lineFeed) (lineWith sofar true ∷ linesFrom [] log) (linesFrom (sofar ++ (c ∷ [])) log)
 
 -- the lines of a log
-unfoldable pub linesOf : List ℕ → List Line
-linesOf log = linesFrom [] log
+unfoldable pub logLines : List ℕ → List Line
+logLines log = linesFrom [] log
 
 -- ---- the work
 
@@ -56,45 +56,30 @@ writtenOf wide l = wholeLine (convertedLine wide l)
 
 -- 16, then 43, then 46: no room left for the converted line and its end
 unfoldable pub refusalOf : Bool → ℕ → Line → ℕ
-refusalOf wide room l = andThen (lineNumber wide (l .text)) (refuse (ltb room (length (writtenOf wide l))) 46 0)
+refusalOf wide room l = andThen (textNumber wide (l .text)) (refuse (ltb room (length (writtenOf wide l))) 46 0)
 
--- what was written; 0, or the number that refused a line; and that line's number, from 1, or 0 where none was refused
+-- what was written; 0, or the number that refused a line; and which line that is, or 0 where none was refused
 pub record Conversion : Type 0 where
   pub written : List ℕ
   pub number : ℕ
   pub line : ℕ
 
--- nothing was left to convert
-abbrev pub finished : Conversion
-finished = record { written = []; number = 0; line = 0 }
+-- everything was written, and it is this
+abbrev pub allWritten : List ℕ → Conversion
+allWritten written = record { written = written; number = 0; line = 0 }
 
--- the same with more written before
-unfoldable pub after : List ℕ → Conversion → Conversion
-after bytes c = record { written = bytes ++ c .written; number = c .number; line = c .line }
+-- the same with more bytes written before
+unfoldable pub withBytes : List ℕ → Conversion → Conversion
+withBytes bytes c = record { written = bytes ++ c .written; number = c .number; line = c .line }
 
--- the lines from number k on, until one is refused: that one is not written, and those after it are not looked at
+-- lines, of which the first is line k, until one is refused: that one is not written, and those after it are not looked at
 unfoldable pub convertedLines : Bool → ℕ → ℕ → List Line → Conversion
-convertedLines wide room k [] = finished
+convertedLines wide room k [] = allWritten []
 convertedLines wide room k (l ∷ ls) =
     cond (eqb (refusalOf wide room l) 0)
-    (after (writtenOf wide l) (convertedLines wide (room - length (writtenOf wide l)) (suc k) ls))
+    (withBytes (writtenOf wide l) (convertedLines wide (room - length (writtenOf wide l)) (suc k) ls))
     (record { written = []; number = refusalOf wide room l; line = k })
 
 -- a log into so much room
 unfoldable pub conversion : Bool → ℕ → List ℕ → Conversion
-conversion wide room log = convertedLines wide room 1 (linesOf log)
-
--- ---- a log in pieces
-
--- where `before` lines stood before: a refused line's number counts them
-unfoldable pub counted : ℕ → Conversion → Conversion
-counted before c = record { written = c .written; number = c .number; line = cond (eqb (c .number) 0) 0 (before + c .line) }
-
--- each piece into a buffer of its own with so much room, until a line is refused; what is written of them stands one after the other
-unfoldable pub inPieces : Bool → ℕ → ℕ → List (List ℕ) → Conversion
-inPieces wide room before [] = finished
-inPieces wide room before (piece ∷ pieces) =
-    let c = conversion wide room piece in
-    cond (eqb (c .number) 0)
-    (after (c .written) (inPieces wide room (before + length (linesOf piece)) pieces))
-    (counted before c)
+conversion wide room log = convertedLines wide room 1 (logLines log)

@@ -3,16 +3,18 @@
 use mathlib.Core.Path.{_≡_}
 use mathlib.Core.Bool.{Bool, true, false}
 use mathlib.Core.List.{List, [], _∷_, _++_, map}
-use mathlib.Core.Logic.{_↔_}
+use mathlib.Core.Logic.{_↔_, _⊎_}
 use Prim.Native.Nat.{ℕ, _+_, _-_, _*_, _≤_, _<_}
 use lib.ListN.{length, take, getD}
 use Rattle.laws.specs.Lists.{joined}
-use Rattle.bench.specs.Frames.{frameOfText}
+use Rattle.bench.specs.Frames.{maxWideLine, frameOfText}
 use Rattle.bench.specs.Lines.{lineFeed, lineCall}
-use Rattle.bench.specs.Input.{lines, transcript}
+use Rattle.bench.specs.Input.{lines, hasLineFeed, transcript}
+use Rattle.bench.specs.declared.frame.Frame.{Frame}
 use Rattle.bench.specs.declared.frame.Frame.the-variants.{Event, WideEvent, Invalid}
-use Rattle.convert.specs.Texts.{maxNarrowSource, isWanted, lineNumber, converted}
-use Rattle.convert.specs.Logs.{Line, lineWith, endOf, wholeLine, linesOf, writtenOf, refusalOf, finished, after, conversion, inPieces}
+use Rattle.convert.specs.Texts.{maxNarrowSource, isWanted, textNumber, converted}
+use Rattle.convert.specs.Logs.{Line, lineWith, endOf, wholeLine, logLines, convertedLine, writtenOf, refusalOf, allWritten, conversion}
+use Rattle.convert.specs.Pieces.{inPieces}
 use Rattle.convert.specs.Promises.{number}
 use Rattle.convert.specs.declared.answer.Answer.{Answer}
 
@@ -26,37 +28,39 @@ pub record LineLaw (text : List ℕ) : Type 0 where
   -- frame 01 becomes 05 of the same source and pool
   pub wider :
       (source pool : ℕ) → frameOfText text ≡ Event source pool →
-      (lineNumber true text ≡ 0) × (frameOfText (converted true text) ≡ WideEvent source pool)
+      (textNumber true text ≡ 0) × (frameOfText (converted true text) ≡ WideEvent source pool)
   -- frame 05 becomes 01 of the same source and pool, if its source is at most 255
   pub narrower :
       (source pool : ℕ) → frameOfText text ≡ WideEvent source pool → source ≤ maxNarrowSource →
-      (lineNumber false text ≡ 0) × (frameOfText (converted false text) ≡ Event source pool)
+      (textNumber false text ≡ 0) × (frameOfText (converted false text) ≡ Event source pool)
   -- a frame of the wanted kind stays as it is
   pub unchanged :
-      (wide : Bool) → isWanted wide (frameOfText text) ≡ true → (lineNumber wide text ≡ 0) × (converted wide text ≡ text)
+      (wide : Bool) → isWanted wide (frameOfText text) ≡ true → (textNumber wide text ≡ 0) × (converted wide text ≡ text)
   -- what is not refused becomes a frame of the wanted kind, and makes the call that it made
-  pub wanted : (wide : Bool) → lineNumber wide text ≡ 0 → isWanted wide (frameOfText (converted wide text)) ≡ true
-  pub sameCall : (wide : Bool) → lineNumber wide text ≡ 0 → lineCall (converted wide text) ≡ lineCall text
+  pub wanted : (wide : Bool) → textNumber wide text ≡ 0 → isWanted wide (frameOfText (converted wide text)) ≡ true
+  pub sameCall : (wide : Bool) → textNumber wide text ≡ 0 → lineCall (converted wide text) ≡ lineCall text
   -- an 01 to 05 to 01 trip restores the line, and so does one from 05 to 01 to 05, if there is an 01
   pub trip :
       (source pool : ℕ) → frameOfText text ≡ Event source pool →
-      (lineNumber false (converted true text) ≡ 0) × (converted false (converted true text) ≡ text)
+      (textNumber false (converted true text) ≡ 0) × (converted false (converted true text) ≡ text)
   pub tripBack :
       (source pool : ℕ) → frameOfText text ≡ WideEvent source pool → source ≤ maxNarrowSource →
-      (lineNumber true (converted false text) ≡ 0) × (converted true (converted false text) ≡ text)
+      (textNumber true (converted false text) ≡ 0) × (converted true (converted false text) ≡ text)
 
 abbrev pub LineLaws : Type 0
 LineLaws = (text : List ℕ) → LineLaw text
 
+-- an event whose source frame 01 can't carry, where 01 is wanted
+abbrev pub TooLarge : Bool → Frame → Type 0
+TooLarge wide f = (wide ≡ false) × (source : ℕ) × (pool : ℕ) × (f ≡ WideEvent source pool) × (maxNarrowSource < source)
+
 -- 16 before 43 before 46: which line is refused by which number, into so much room
 pub record OrderLaw (wide : Bool) (room : ℕ) (l : Line) : Type 0 where
-  pub noFrame : (refusalOf wide room l ≡ 16) ↔ (frameOfText (l .text) ≡ Invalid)
-  pub largeSource :
-      (refusalOf wide room l ≡ 43)
-      ↔ ((wide ≡ false) × (source : ℕ) × (pool : ℕ) × (frameOfText (l .text) ≡ WideEvent source pool) × (maxNarrowSource < source))
+  pub stray : (refusalOf wide room l ≡ 16) ↔ (frameOfText (l .text) ≡ Invalid)
+  pub largeSource : (refusalOf wide room l ≡ 43) ↔ TooLarge wide (frameOfText (l .text))
   pub noRoom :
       (refusalOf wide room l ≡ 46)
-      ↔ ((lineNumber wide (l .text) ≡ 0) × (room < length (converted wide (l .text)) + length (endOf (l .ended))))
+      ↔ ((textNumber wide (l .text) ≡ 0) × (room < length (converted wide (l .text)) + length (endOf (l .ended))))
   pub else :
       (refusalOf wide room l ≡ 16 → ⊥) → (refusalOf wide room l ≡ 43 → ⊥) → (refusalOf wide room l ≡ 46 → ⊥) → refusalOf wide room l ≡ 0
 
@@ -66,40 +70,53 @@ OrderLaws = (wide : Bool) (room : ℕ) (l : Line) → OrderLaw wide room l
 -- ---- a log
 
 -- its lines are the bench's, and with their ends they are the log
-pub record LinesAre (log : List ℕ) : Type 0 where
-  pub texts : map (λ l. l .text) (linesOf log) ≡ lines log
-  pub whole : joined wholeLine (linesOf log) ≡ log
+pub record LogLines (log : List ℕ) : Type 0 where
+  pub texts : map (λ l. l .text) (logLines log) ≡ lines log
+  pub whole : joined wholeLine (logLines log) ≡ log
 
-abbrev pub LinesLaw : Type 0
-LinesLaw = (log : List ℕ) → LinesAre log
+abbrev pub LogLinesLaw : Type 0
+LogLinesLaw = (log : List ℕ) → LogLines log
 
 -- what the first k lines become
 abbrev pub firstWritten : Bool → ℕ → List ℕ → List ℕ
-firstWritten wide k log = joined (writtenOf wide) (take k (linesOf log))
+firstWritten wide k log = joined (writtenOf wide) (take k (logLines log))
 
--- the line at place k, from 0
-abbrev pub lineAt : List ℕ → ℕ → Line
-lineAt log k = getD (linesOf log) k (lineWith [] false)
+-- past the last line of a log
+abbrev pub noLine : Line
+noLine = lineWith [] false
 
--- the first refused line, at place k: those before it are not refused, each with the room that the lines before it leave, and are written; its
--- number is k + 1; nothing more is written
+-- what a log's line at place k, from 0, is refused by, with the room that the lines before it leave
+abbrev pub refusalAt : Bool → ℕ → List ℕ → ℕ → ℕ
+refusalAt wide room log k = refusalOf wide (room - length (firstWritten wide k log)) (getD (logLines log) k noLine)
+
+-- every line is accepted and written
+pub record Finished (wide : Bool) (room : ℕ) (log : List ℕ) : Type 0 where
+  pub passed : (j : ℕ) → j < length (logLines log) → refusalAt wide room log j ≡ 0
+  pub line : conversion wide room log .line ≡ 0
+  pub written : conversion wide room log .written ≡ joined (writtenOf wide) (logLines log)
+
+-- the first refused line stands at place k: those before it are accepted and written, and nothing more is; it is line k + 1
 pub record Stopped (wide : Bool) (room : ℕ) (log : List ℕ) : Type 0 where
   pub k : ℕ
-  pub inside : k < length (linesOf log)
-  pub passed : (j : ℕ) → j < k → refusalOf wide (room - length (firstWritten wide j log)) (lineAt log j) ≡ 0
-  pub refused : refusalOf wide (room - length (firstWritten wide k log)) (lineAt log k) ≡ conversion wide room log .number
+  pub inside : k < length (logLines log)
+  pub passed : (j : ℕ) → j < k → refusalAt wide room log j ≡ 0
+  pub refused : refusalAt wide room log k ≡ conversion wide room log .number
   pub line : conversion wide room log .line ≡ k + 1
   pub written : conversion wide room log .written ≡ firstWritten wide k log
 
 pub record FirstRefused (wide : Bool) (room : ℕ) (log : List ℕ) : Type 0 where
   pub fits : length (conversion wide room log .written) ≤ room
-  pub all :
-      conversion wide room log .number ≡ 0 →
-      (conversion wide room log .written ≡ joined (writtenOf wide) (linesOf log)) × (conversion wide room log .line ≡ 0)
+  pub all : conversion wide room log .number ≡ 0 → Finished wide room log
   pub stopped : (conversion wide room log .number ≡ 0 → ⊥) → Stopped wide room log
 
 abbrev pub FirstRefusedLaw : Type 0
 FirstRefusedLaw = (wide : Bool) (room : ℕ) (log : List ℕ) → FirstRefused wide room log
+
+-- the lines of a whole conversion are the log's lines converted, each with its own end
+abbrev pub SameEnds : Type 0
+SameEnds =
+    (wide : Bool) (room : ℕ) (log : List ℕ) → conversion wide room log .number ≡ 0 →
+    logLines (conversion wide room log .written) ≡ map (convertedLine wide) (logLines log)
 
 -- running a log and its whole conversion gives equal answers
 abbrev pub SameAnswers : Type 0
@@ -119,13 +136,13 @@ OnlyWanted = (wide : Bool) (room : ℕ) (log : List ℕ) → AllWanted wide (con
 abbrev pub Unchanged : Type 0
 Unchanged =
     (wide : Bool) (room : ℕ) (log : List ℕ) → AllWanted wide log → length log ≤ room →
-    conversion wide room log ≡ after log finished
+    conversion wide room log ≡ allWritten log
 
--- an 01 to 05 to 01 trip restores the log
+-- an 01 to 05 to 01 trip restores the log, where there is enough room
 abbrev pub Trip : Type 0
 Trip =
-    (there back : ℕ) (log : List ℕ) → AllWanted false log → conversion true there log .number ≡ 0 → length log ≤ back →
-    conversion false back (conversion true there log .written) ≡ after log finished
+    (there back : ℕ) (log : List ℕ) → AllWanted false log → 4 * length log ≤ 3 * there → length log ≤ back →
+    (conversion true there log .number ≡ 0) × (conversion false back (conversion true there log .written) ≡ allWritten log)
 
 -- room that is always enough: to 01 the log's own length, and to 05 four thirds of it
 pub record EnoughRoom (room : ℕ) (log : List ℕ) : Type 0 where
@@ -135,9 +152,10 @@ pub record EnoughRoom (room : ℕ) (log : List ℕ) : Type 0 where
 abbrev pub EnoughRoomLaw : Type 0
 EnoughRoomLaw = (room : ℕ) (log : List ℕ) → EnoughRoom room log
 
--- every piece ends with a line feed, but for the last one
+-- every piece but the last is empty or ends with a line feed
 abbrev pub CutAfterLines : List (List ℕ) → Type 0
-CutAfterLines pieces = (k : ℕ) → k + 1 < length pieces → (before : List ℕ) × (getD pieces k [] ≡ before ++ (lineFeed ∷ []))
+CutAfterLines pieces =
+    (k : ℕ) → k + 1 < length pieces → (getD pieces k [] ≡ []) ⊎ ((before : List ℕ) × (getD pieces k [] ≡ before ++ (lineFeed ∷ [])))
 
 -- a log may be cut after its lines into pieces of any sizes: converted one by one, where each has enough room, they come to what the whole log comes
 -- to in any room that takes what is written
@@ -146,3 +164,9 @@ PiecesLaw =
     (wide : Bool) (room whole : ℕ) (pieces : List (List ℕ)) → CutAfterLines pieces →
     let c = inPieces wide room 0 pieces in
     (c .number ≡ 46 → ⊥) → length (c .written) ≤ whole → conversion wide whole (joined (λ piece. piece) pieces) ≡ c
+
+-- the last of them may be cut inside a line that is too long for any frame: it comes to the same with whatever follows
+abbrev pub LongLineLaw : Type 0
+LongLineLaw =
+    (wide : Bool) (room : ℕ) (text rest : List ℕ) → hasLineFeed text ≡ false → maxWideLine < length text →
+    conversion wide room (text ++ rest) ≡ record { written = []; number = 16; line = 1 }

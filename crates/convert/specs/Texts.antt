@@ -1,5 +1,5 @@
--- One line of a log as a frame of the wanted kind (02 (xii)). A line is hexadecimal in capitals, so that the text alone changes: 01 becomes 05 with
--- a source byte 00 before the other, and 05 with that byte 00 becomes 01 without it. `wide` is true where 05 is wanted, and false where 01 is.
+-- One line of a log as a frame of the wanted kind (02 (xii)). Only the front of the text changes: 01 becomes 05 with a source byte 00 before the
+-- other, and 05 with that byte 00 becomes 01 without it. `wide` is true where 05 is wanted, and false where 01 is.
 -- Assumes nothing.
 use mathlib.Core.Bool.{Bool, true, false, cond, not}
 use mathlib.Core.List.{List, _∷_}
@@ -50,7 +50,7 @@ carriedOut Narrow text = narrowed text
 carriedOut Stray text = text
 carriedOut Large text = text
 
--- 0, or the number that refuses the line: 16, no frame; 43, a source above 255 where 01 is wanted
+-- 0, or the number that refuses a text: 16, no frame; 43, a source above 255 where 01 is wanted
 unfoldable pub actionNumber : Action → ℕ
 actionNumber Keep = 0
 actionNumber Widen = 0
@@ -58,10 +58,10 @@ actionNumber Narrow = 0
 actionNumber Stray = 16
 actionNumber Large = 43
 
--- the number of a line of text
-unfoldable pub lineNumber : Bool → List ℕ → ℕ
-lineNumber wide text = actionNumber (actionOf wide (frameOfText text))
+-- the number of a text, whatever the room
+unfoldable pub textNumber : Bool → List ℕ → ℕ
+textNumber wide text = actionNumber (actionOf wide (frameOfText text))
 
--- the line of the wanted kind
+-- the text of the wanted kind; of one that is refused it is the old one, which nothing reads
 unfoldable pub converted : Bool → List ℕ → List ℕ
 converted wide text = carriedOut (actionOf wide (frameOfText text)) text

@@ -9,23 +9,23 @@ use crate::action::Action;
 use crate::action::action_of;
 use crate::answer::Answer;
 use bench::input::line_length;
-use bench::line::frame_of;
+use bench::line::frame_of_text;
 use laws::overwrite;
 
 // How many bytes were written.
-pub struct LineOutcome {
+pub struct LineAnswer {
     pub answer: Answer,
     pub written: usize,
 }
 
 // The same, and how many of the log's bytes the line and its end are.
-pub struct FirstOutcome {
+pub struct FirstAnswer {
     pub answer: Answer,
     pub used: usize,
     pub written: usize,
 }
 
-// The text from a place on; nothing past its end.
+// The text from a place on; nothing past its end, so that no caller has to show how long a frame is.
 fn rest_of(text: &[u8], n: usize) -> &[u8]
     ensures { λ r. ⌜ now r ≡ drop n (now (text .entry)) ⌝ }
 {
@@ -45,6 +45,7 @@ fn end_size(ended: bool) -> usize
     0
 }
 
+// A line feed at a place, where one ends the line.
 fn store_end(ended: bool, at: usize, out: &mut [u8])
     requires { ⌜ at + length (endOf ended) ≤ length (now out) ⌝ }
     ensures { λ r. ⌜ EndStored ended at (now (out .entry)) (now (out .exit)) ⌝ }
@@ -54,6 +55,7 @@ fn store_end(ended: bool, at: usize, out: &mut [u8])
     }
 }
 
+// One text behind the other, at the front.
 fn store_parts(front: &[u8], rest: &[u8], out: &mut [u8])
     requires { ⌜ length (now front) + length (now rest) ≤ length (now out) ⌝ }
     ensures { λ r. ⌜ PartsStored (now (front .entry)) (now (rest .entry)) (now (out .entry)) (now (out .exit)) ⌝ }
@@ -63,43 +65,43 @@ fn store_parts(front: &[u8], rest: &[u8], out: &mut [u8])
     overwrite(&mut out[a..], rest);
 }
 
-// A text in two parts and its end, if there is room for all of it.
-fn put(front: &[u8], rest: &[u8], ended: bool, out: &mut [u8]) -> LineOutcome
+// A text in two parts and its end, if there is room for all of it. The first is short, so that no sum of lengths overflows.
+fn put(front: &[u8], rest: &[u8], ended: bool, out: &mut [u8]) -> LineAnswer
     requires { ⌜ length (now front) ≤ 4 ⌝ }
     ensures { λ r. ⌜ StoresText ((now (front .entry) ++ now (rest .entry)) ++ endOf ended) r (now (out .entry)) (now (out .exit)) ⌝ }
 {
     let size = front.len() + rest.len();
     let total = size + end_size(ended);
     if out.len() < total {
-        return LineOutcome {
+        return LineAnswer {
             answer: Answer::NoRoom,
             written: 0,
         };
     }
     store_parts(front, rest, out);
     store_end(ended, size, out);
-    LineOutcome {
+    LineAnswer {
         answer: Answer::Converted,
         written: total,
     }
 }
 
 // A line's text and end.
-fn convert_line(text: &[u8], ended: bool, wide: bool, out: &mut [u8]) -> LineOutcome
+fn convert_line(text: &[u8], ended: bool, wide: bool, out: &mut [u8]) -> LineAnswer
     ensures { λ r. ⌜ ConvertsLine wide (lineWith (now (text .entry)) ended) r (now (out .entry)) (now (out .exit)) ⌝ }
 {
-    let widened = [48u8, 53, 48, 48];
-    let narrowed = [48u8, 49];
-    let action = action_of(frame_of(text), wide);
+    let wide_front = [48u8, 53, 48, 48];
+    let narrow_front = [48u8, 49];
+    let action = action_of(frame_of_text(text), wide);
     match action {
         Action::Keep => put(&text[..0], text, ended, out),
-        Action::Widen => put(&widened, rest_of(text, 2), ended, out),
-        Action::Narrow => put(&narrowed, rest_of(text, 4), ended, out),
-        Action::Stray => LineOutcome {
+        Action::Widen => put(&wide_front, rest_of(text, 2), ended, out),
+        Action::Narrow => put(&narrow_front, rest_of(text, 4), ended, out),
+        Action::Stray => LineAnswer {
             answer: Answer::NoFrame,
             written: 0,
         },
-        Action::Large => LineOutcome {
+        Action::Large => LineAnswer {
             answer: Answer::LargeSource,
             written: 0,
         },
@@ -107,16 +109,17 @@ fn convert_line(text: &[u8], ended: bool, wide: bool, out: &mut [u8]) -> LineOut
 }
 
 // The first line of what is left of a log.
-pub fn convert_first(rest: &[u8], wide: bool, out: &mut [u8]) -> FirstOutcome
+pub fn convert_first(rest: &[u8], wide: bool, out: &mut [u8]) -> FirstAnswer
     ensures { λ r. ⌜ ConvertsFirst wide (now (rest .entry)) r (now (out .entry)) (now (out .exit)) ⌝ }
 {
     let n = line_length(rest);
     let ended = n < rest.len();
     let o = convert_line(&rest[..n], ended, wide, out);
     let answer = o.answer;
-    FirstOutcome {
+    let used = n + end_size(ended);
+    FirstAnswer {
         answer,
-        used: n + end_size(ended),
+        used,
         written: o.written,
     }
 }

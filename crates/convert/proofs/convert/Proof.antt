@@ -94,9 +94,11 @@ add-at c =
 
 add-line : tie.Need-add-line Inv-loop μ-loop
 add-line c =
-    let test = c .before .before .before .before .before .before .before .before .before in
+    let asked = c .before .before .before in
+    let line-done = asked .before .before .before in
+    let test = line-done .before .before .before in
     let w = test .before .loop .inv in
-    omega (arith, w .counted, w .within, test .loop-test .taken)
+    omega (arith, w .lines-few, w .within, test .loop-test .taken)
 
 loop-less : tie.Need-loop-less Inv-loop μ-loop
 loop-less c =

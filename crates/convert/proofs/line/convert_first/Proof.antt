@@ -24,9 +24,10 @@ convert-line-requires c κs = search needs
 end-size-requires : tie.Need-end-size-requires
 end-size-requires c κs = search needs
 
-add-t13 : tie.Need-add-t13
-add-t13 c =
-    let measured = c .before .before .before .before .before .before in
+add-used : tie.Need-add-used
+add-used c =
+    let converted = c .before .before .before in
+    let measured = converted .before .before .before in
     let a = measured .before .before .before .args in
     let used = first-used (a .rest .now) _ (measured .line-length .ensures) _ (c .end-size .ensures) in
     omega (arith, used, used-fits (a .rest .now))
@@ -49,6 +50,6 @@ convert-first-spec =
     slice-aggregate-convert-line
     convert-line-requires
     end-size-requires
-    add-t13
+    add-used
     same-length
     returns)

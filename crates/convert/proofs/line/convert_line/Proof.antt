@@ -8,8 +8,8 @@ use borrow.Author.Needs.{needs}
 use Rattle.convert.proofs.line.convert_line.Statement.{statement}
 use Rattle.convert.proofs.line.convert_line.Tie as tie
 
-frame-of-requires : tie.Need-frame-of-requires
-frame-of-requires c κs = search needs
+frame-of-text-requires : tie.Need-frame-of-text-requires
+frame-of-text-requires c κs = search needs
 
 action-of-requires : tie.Need-action-of-requires
 action-of-requires c κs = search needs
@@ -64,7 +64,7 @@ returns c =
     let acted = taken .before .before in
     let framed = acted .before in
     let a = framed .before .before .before .args in
-    let action = sym (acted .action-of .ensures ∙ ap (actionOf _) (framed .frame-of .ensures)) ∙ taken .enum-told .given .1 in
+    let action = sym (acted .action-of .ensures ∙ ap (actionOf _) (framed .frame-of-text .ensures)) ∙ taken .enum-told .given .1 in
     line-taken (a .wide) (a .ended) (a .text .now) _ (a .out .now) _ _ _ action refl refl (stored .put .ensures)
 
 same-length-2 : tie.Need-same-length-2
@@ -79,7 +79,7 @@ returns-2 c =
     let acted = taken .before .before in
     let framed = acted .before in
     let a = framed .before .before .before .args in
-    let action = sym (acted .action-of .ensures ∙ ap (actionOf _) (framed .frame-of .ensures)) ∙ taken .enum-told2 .given .1 in
+    let action = sym (acted .action-of .ensures ∙ ap (actionOf _) (framed .frame-of-text .ensures)) ∙ taken .enum-told2 .given .1 in
     line-taken (a .wide) (a .ended) (a .text .now) _ (a .out .now) _ _ _ action refl refl (rw (cut .rest-of .ensures) at (stored .put2 .ensures))
 
 same-length-3 : tie.Need-same-length-3
@@ -94,7 +94,7 @@ returns-3 c =
     let acted = taken .before .before in
     let framed = acted .before in
     let a = framed .before .before .before .args in
-    let action = sym (acted .action-of .ensures ∙ ap (actionOf _) (framed .frame-of .ensures)) ∙ taken .enum-told3 .given .1 in
+    let action = sym (acted .action-of .ensures ∙ ap (actionOf _) (framed .frame-of-text .ensures)) ∙ taken .enum-told3 .given .1 in
     line-taken (a .wide) (a .ended) (a .text .now) _ (a .out .now) _ _ _ action refl refl (rw (cut .rest-of2 .ensures) at (stored .put3 .ensures))
 
 returns-4 : tie.Need-returns-4
@@ -103,7 +103,7 @@ returns-4 c =
     let acted = c .before .before in
     let framed = acted .before in
     let a = framed .before .before .before .args in
-    let action = sym (acted .action-of .ensures ∙ ap (actionOf _) (framed .frame-of .ensures)) ∙ c .enum-told4 .given .1 in
+    let action = sym (acted .action-of .ensures ∙ ap (actionOf _) (framed .frame-of-text .ensures)) ∙ c .enum-told4 .given .1 in
     line-left (a .wide) (a .ended) (a .text .now) (a .out .now) _ _ 15 action refl refl
 
 returns-5 : tie.Need-returns-5
@@ -112,14 +112,14 @@ returns-5 c =
     let acted = c .before .before in
     let framed = acted .before in
     let a = framed .before .before .before .args in
-    let action = sym (acted .action-of .ensures ∙ ap (actionOf _) (framed .frame-of .ensures)) ∙ c .enum-told5 .given .1 in
+    let action = sym (acted .action-of .ensures ∙ ap (actionOf _) (framed .frame-of-text .ensures)) ∙ c .enum-told5 .given .1 in
     line-left (a .wide) (a .ended) (a .text .now) (a .out .now) _ _ 42 action refl refl
 
 pub convert-line-spec : {M : Type 1} → statement M
 convert-line-spec =
     tie.close
     (tie.spec
-    frame-of-requires
+    frame-of-text-requires
     action-of-requires
     enum-told
     slice-aggregate-put

@@ -1,4 +1,4 @@
--- `bench::line::frame_of` meets its contract.
+-- `bench::line::frame_of_text` meets its contract.
 -- Assumes nothing.
 use mathlib.Core.Path.{_≡_, sym, ap, _∙_}
 use mathlib.Core.Bool.{true, false}
@@ -10,8 +10,8 @@ use Rattle.bench.specs.Frames.{maxLine}
 use Rattle.bench.proofs.Hexadecimal.{length-decode, decoded-front}
 use Rattle.bench.proofs.Texts.{short-line, long-frame, other-frame, hex-frame}
 use borrow.Author.Needs.{needs}
-use Rattle.bench.proofs.line.frame_of.Statement.{statement}
-use Rattle.bench.proofs.line.frame_of.Tie as tie
+use Rattle.bench.proofs.line.frame_of_text.Statement.{statement}
+use Rattle.bench.proofs.line.frame_of_text.Tie as tie
 
 max-line-requires : tie.Need-max-line-requires
 max-line-requires c κs = search needs
@@ -75,8 +75,8 @@ returns-3 c =
     let e = decoded-front t (decoded .decode .last .1 .0) _ (decoded .decode .ensures) in
     (rw e at (c .parse .ensures)) ∙ sym (hex-frame t short f)
 
-pub frame-of-spec : {M : Type 1} → statement M
-frame-of-spec =
+pub frame-of-text-spec : {M : Type 1} → statement M
+frame-of-text-spec =
     tie.close
     (tie.spec
     max-line-requires
