@@ -13,7 +13,7 @@ use lib.Seq.{drop-cons, append-snoc, take-suc-set, drop-set-lt, drop-drop, drop-
 use borrow.Author.Tests.{leb-true, ltb-true, ltb-false}
 use Rattle.laws.proofs.Cases.{split, by-test}
 use Rattle.laws.proofs.Tables.{agree-at}
-use Rattle.bench.specs.Hexadecimal.{isDecimal, isCapital, isDigit, digitValue, digitCharacter, decodeHex, encodeHex}
+use Rattle.bench.specs.Hexadecimal.{isDecimal, isCapital, isDigit, digitValue, digitCharacter, decodeHex, encodeHex, allDigits}
 use Rattle.bench.specs.Statements.{HexadecimalLaw}
 
 -- ---- digits
@@ -83,6 +83,25 @@ byte-small [] i = omega arith
 byte-small (c ∷ []) i = omega arith
 byte-small (c ∷ d ∷ text) zero = omega (arith, digit-small c, digit-small d)
 byte-small (c ∷ d ∷ text) (suc i) = byte-small text i
+
+-- ---- the loop over a text's characters: `sofar` says of the first i whether all are digits
+
+digits-split : (sofar : Bool) (c : ℕ) (rest : List ℕ) → (sofar && allDigits (c ∷ rest)) ≡ ((sofar && isDigit c) && allDigits rest)
+unfolding allDigits
+digits-split true c rest = refl
+digits-split false c rest = refl
+
+module _ (text : List ℕ) (i : ℕ) (sofar : Bool) (so : allDigits text ≡ (sofar && allDigits (drop i text))) where
+  pub digits-more : i < length text → allDigits text ≡ ((sofar && isDigit (getD text i 0)) && allDigits (drop (i + 1) text))
+  digits-more h = so ∙ rw (drop-cons text i 0 h, add-one i) (digits-split sofar (getD text i 0) (drop (suc i) text))
+
+  pub digits-all : i ≡ length text → sofar ≡ allDigits text
+  unfolding allDigits
+  digits-all e = sym (so ∙ rw (e, drop-length) (last sofar))
+    where
+      last : (sofar : Bool) → (sofar && true) ≡ sofar
+      last true = refl
+      last false = refl
 
 -- ---- decode after encode
 

@@ -47,18 +47,17 @@ fn byte(high: u8, low: u8) -> u8
     16 * digit_value(high) + digit_value(low)
 }
 
-// Whether every character is a digit.
+// Whether every character is a digit. All are looked at, so that the compiler can take several at once.
 fn all_digits(text: &[u8]) -> bool
     ensures { λ r. ⌜ r ≡ allDigits (now (text .entry)) ⌝ }
 {
+    let mut digits = true;
     let mut i = 0;
     while i < text.len() {
-        if !is_digit(text[i]) {
-            return false;
-        }
+        digits = digits & is_digit(text[i]);
         i += 1;
     }
-    true
+    digits
 }
 
 // Whether a text is digits alone, and an even number of them.

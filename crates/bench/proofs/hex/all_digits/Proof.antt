@@ -1,23 +1,21 @@
 -- `bench::hex::all_digits` meets its contract.
 -- Assumes nothing.
-use mathlib.Core.Path.{_≡_, refl, _∙_, sym}
-use mathlib.Core.Bool.{true, false}
-use Prim.Native.Nat.{_≤_, _<_, _-_}
-use native.Mathlib.Numerals.{add-one}
+use mathlib.Core.Path.{_≡_, refl, sym, ap, _∙_}
+use mathlib.Core.Bool.{Bool, _&&_}
+use Prim.Native.Nat.{_+_, _-_, _≤_}
 use native.Mathlib.Omega.{arith}
-use lib.ListN.{length, getD, drop}
-use lib.Seq.{drop-cons, drop-length}
+use lib.ListN.{length, drop}
 use borrow.Author.Needs.{needs}
-use borrow.Author.Tests.{not-true, not-false}
-use Rattle.bench.specs.Hexadecimal.{isDigit, allDigits}
+use Rattle.bench.specs.Hexadecimal.{allDigits}
+use Rattle.bench.proofs.Hexadecimal.{digits-more, digits-all}
 use Rattle.bench.proofs.hex.all_digits.Statement.{statement}
 use Rattle.bench.proofs.hex.all_digits.Tie as tie
 
 abbrev Inv-loop : tie.InvT-loop
-Inv-loop text i₀ i = (i ≤ length text) × (allDigits text ≡ allDigits (drop i text))
+Inv-loop text digits₀ i₀ digits i = (i ≤ length text) × (allDigits text ≡ (digits && allDigits (drop i text)))
 
 abbrev μ-loop : tie.MeasureT-loop
-μ-loop text i₀ i = length text - i
+μ-loop text digits₀ i₀ digits i = length text - i
 
 loop-holds : tie.Need-loop-holds Inv-loop μ-loop
 loop-holds c = (omega arith, refl)
@@ -28,15 +26,6 @@ shared-slice-read-is-digit c = search needs
 is-digit-requires : tie.Need-is-digit-requires Inv-loop μ-loop
 is-digit-requires c κs = search needs
 
-returns : tie.Need-returns Inv-loop μ-loop
-unfolding allDigits
-returns c =
-    let t = c .before .before .before .before .before .before .args .text .now in
-    let i = c .before .before .before .before .loop .i in
-    let h : i < length t = omega arith in
-    let e : isDigit (getD t i 0) ≡ false = sym (c .before .is-digit .ensures) ∙ not-true _ (c .if1 .taken) in
-    sym (c .before .before .before .before .loop .inv .1 ∙ rw (drop-cons t i 0 h, e))
-
 add-i : tie.Need-add-i Inv-loop μ-loop
 add-i c = search needs
 
@@ -44,20 +33,17 @@ loop-less : tie.Need-loop-less Inv-loop μ-loop
 loop-less c = search needs
 
 loop-again : tie.Need-loop-again Inv-loop μ-loop
-unfolding allDigits
 loop-again c =
-    let t = c .before .before .before .before .before .before .args .text .now in
-    let i = c .before .before .before .before .loop .i in
-    let h : i < length t = omega arith in
-    let e : isDigit (getD t i 0) ≡ true = sym (c .before .is-digit .ensures) ∙ not-false _ (c .if1 .left) in
-    (omega arith, c .before .before .before .before .loop .inv .1 ∙ rw (add-one, drop-cons t i 0 h, e))
+    let test = c .before .before in
+    let x = test .before .loop in
+    let text = test .before .before .before .args .text .now in
+    let more = digits-more text (x .i) (x .digits) (x .inv .1) (omega arith) in
+    (omega arith, more ∙ ap (λ (t : Bool). (x .digits && t) && allDigits (drop (x .i + 1) text)) (sym (c .is-digit .ensures)))
 
-returns-2 : tie.Need-returns-2 Inv-loop μ-loop
-unfolding allDigits
-returns-2 c =
-    let t = c .before .before .before .args .text .now in
-    let e : c .before .loop .i ≡ length t = omega arith in
-    sym (c .before .loop .inv .1 ∙ rw (e, drop-length))
+returns : tie.Need-returns Inv-loop μ-loop
+returns c =
+    let x = c .before .loop in
+    digits-all (c .before .before .before .args .text .now) (x .i) (x .digits) (x .inv .1) (omega arith)
 
 pub all-digits-spec : {M : Type 1} → statement M
 all-digits-spec =
@@ -68,8 +54,7 @@ all-digits-spec =
     loop-holds
     shared-slice-read-is-digit
     is-digit-requires
-    returns
     add-i
     loop-less
     loop-again
-    returns-2)
+    returns)
