@@ -17,7 +17,8 @@ static size_t make_log(bool wide) {
     size_t length = 0;
     for (size_t i = 0; i < LINES; i++) {
         char line[LONGEST + 1];
-        size_t size = (size_t)sprintf(line, "%s%02X%02X", wide ? "0500" : "01", below(256), below(32));
+        const uint32_t source = below(256), pool = below(32);
+        size_t size = (size_t)sprintf(line, "%s%02X%02X", wide ? "0500" : "01", source, pool);
         for (int j = 0; j < DATA; j++) size += (size_t)sprintf(line + size, "%02X", below(256));
         line[size++] = '\n';
         memcpy(log_text + length, line, size);
