@@ -1,4 +1,4 @@
--- Rows worked out by the definitions: each frame both ways, the bounds of 16, 43 and 46, and the edges of a log.
+-- Rows worked out by the definitions: each frame both ways, the bounds of 16, 43 and 46, the edges of a log, and pieces.
 -- Assumes nothing.
 use mathlib.Core.Path.{_≡_}
 use mathlib.Core.Bool.{true, false}
@@ -6,9 +6,14 @@ use mathlib.Core.List.{List, [], _∷_, _++_, map}
 use Prim.Native.Nat.{ℕ}
 use lib.ListN.{replicate}
 use Rattle.bench.specs.Examples.{ascii}
-use Rattle.convert.specs.Texts.{textNumber, converted}
-use Rattle.convert.specs.Logs.{Conversion, conversion}
-use Rattle.convert.specs.Pieces.{inPieces}
+use Rattle.bench.specs.declared.frame.Frame.{Frame}
+use Rattle.bench.specs.declared.frame.Frame.the-variants.{Event, Request, Update, Write, WideEvent, Invalid}
+use Rattle.convert.specs.Texts.{isWanted, textNumber, converted}
+use Rattle.convert.specs.Logs.{Conversion, allWritten, conversion}
+use Rattle.convert.specs.Pieces.{withLines, inPieces}
+use Rattle.convert.specs.Promises.{number}
+use Rattle.convert.specs.Statements.{CutAfterLines}
+use Rattle.convert.specs.declared.answer.Answer.the-variants.{Converted, NoFrame, LargeSource, NoRoom}
 
 -- ---- lines
 
@@ -53,6 +58,23 @@ LongRow =
     × (map (λ (n : ℕ). textNumber true (ascii "0107" ++ replicate n 48)) (252 ∷ 253 ∷ 254 ∷ []) ≡ 0 ∷ 16 ∷ 16 ∷ [])
     × (map (λ (n : ℕ). textNumber false (ascii "050007" ++ replicate n 48)) (250 ∷ 251 ∷ 252 ∷ 253 ∷ 254 ∷ []) ≡ 0 ∷ 16 ∷ 0 ∷ 16 ∷ 16 ∷ [])
 
+-- which frames are of the wanted kind
+abbrev pub WantedRow : Type 0
+WantedRow =
+    let frames : List Frame = Event 7 3 ∷ Request 5 16 ∷ Update 5 ∷ Write 5 ∷ WideEvent 7 3 ∷ Invalid ∷ [] in
+    (map (isWanted true) frames ≡ false ∷ true ∷ true ∷ true ∷ true ∷ false ∷ [])
+    × (map (isWanted false) frames ≡ true ∷ true ∷ true ∷ true ∷ false ∷ false ∷ [])
+
+-- the text of a line that is refused stays, though nothing reads it
+abbrev pub RefusedTextRow : Type 0
+RefusedTextRow =
+    (map (converted true) (ascii "0G" ∷ []) ≡ ascii "0G" ∷ [])
+    × (map (converted false) (ascii "0G" ∷ ascii "05010003A1" ∷ []) ≡ ascii "0G" ∷ ascii "05010003A1" ∷ [])
+
+-- the numbers of the answers
+abbrev pub NumbersRow : Type 0
+NumbersRow = map number (Converted ∷ NoFrame ∷ LargeSource ∷ NoRoom ∷ []) ≡ 0 ∷ 16 ∷ 43 ∷ 46 ∷ []
+
 -- ---- logs
 
 -- what a log comes to
@@ -89,17 +111,53 @@ OrderRow =
     map (conversion false 0) ([] ∷ ascii "0G\n" ∷ ascii "05010003A1\n" ∷ ascii "0500FF03A1\n" ∷ ascii "0400000000" ∷ [])
     ≡ cameTo [] 0 0 ∷ cameTo [] 16 1 ∷ cameTo [] 43 1 ∷ cameTo [] 46 1 ∷ cameTo [] 46 1 ∷ []
 
--- one shortest event: four thirds of its 6 characters are enough, and a byte less is too little
+-- one shortest event: to 05 four thirds of its 6 characters are enough, and to 01 these 6; a byte less is too little
 abbrev pub EnoughRow : Type 0
-EnoughRow = map (λ (room : ℕ). conversion true room (ascii "010703")) (8 ∷ 7 ∷ []) ≡ cameTo (ascii "05000703") 0 0 ∷ cameTo [] 46 1 ∷ []
+EnoughRow =
+    (map (λ (room : ℕ). conversion true room (ascii "010703")) (8 ∷ 7 ∷ []) ≡ cameTo (ascii "05000703") 0 0 ∷ cameTo [] 46 1 ∷ [])
+    × (map (λ (room : ℕ). conversion false room (ascii "010703")) (6 ∷ 5 ∷ []) ≡ cameTo (ascii "010703") 0 0 ∷ cameTo [] 46 1 ∷ [])
 
--- pieces: a refused line counts those of the pieces before it, and ends the work; each piece has the room anew; an empty one between
+-- ---- pieces
+
+-- a refused line counts those of all pieces before it, and ends the work; each piece has the room anew; an empty one between
 abbrev pub PiecesRow : Type 0
 PiecesRow =
     (inPieces true 22 0 (ascii "010703A1\n010703A1\n" ∷ ascii "010703A1\n0G\n" ∷ ascii "010703A1\n" ∷ [])
     ≡ cameTo (ascii "05000703A1\n05000703A1\n05000703A1\n") 16 4)
     × (inPieces true 11 0 (ascii "010703A1\n" ∷ [] ∷ ascii "010703A1\n" ∷ ascii "010703A1" ∷ [])
     ≡ cameTo (ascii "05000703A1\n05000703A1\n05000703A1") 0 0)
+    × (inPieces true 0 0 [] ≡ cameTo [] 0 0) × (inPieces true 0 0 ([] ∷ []) ≡ cameTo [] 0 0)
+
+-- three pieces to 01, with 43 in the last; with a byte less of room 46 in the second
+abbrev pub ThreePiecesRow : Type 0
+ThreePiecesRow =
+    map
+    (λ (room : ℕ).
+    inPieces false room 0
+    (ascii "05000703A1\n" ∷ ascii "05000703A1\n010703A1\n" ∷ ascii "010703A1\n05010003A1\n0G" ∷ []))
+    (18 ∷ 17 ∷ [])
+    ≡ cameTo (ascii "010703A1\n010703A1\n010703A1\n010703A1\n") 43 5 ∷ cameTo (ascii "010703A1\n010703A1\n") 46 3 ∷ []
+
+-- room for each piece, for all but a byte of the second, for a line, for less
+abbrev pub PieceRoomRow : Type 0
+PieceRoomRow =
+    map
+    (λ (room : ℕ). inPieces true room 0 (ascii "010703A1\n" ∷ ascii "010703A1\n010703A1" ∷ ascii "0G" ∷ []))
+    (21 ∷ 20 ∷ 11 ∷ 10 ∷ [])
+    ≡ cameTo (ascii "05000703A1\n05000703A1\n05000703A1") 16 4
+    ∷ cameTo (ascii "05000703A1\n05000703A1\n") 46 3
+    ∷ cameTo (ascii "05000703A1\n05000703A1\n") 46 3
+    ∷ cameTo [] 46 1
+    ∷ []
+
+-- lines before count for a refused line alone
+abbrev pub LinesBeforeRow : Type 0
+LinesBeforeRow =
+    (withLines 3 (allWritten (48 ∷ [])) ≡ allWritten (48 ∷ [])) × (withLines 3 (cameTo (48 ∷ []) 16 2) ≡ cameTo (48 ∷ []) 16 5)
+
+-- a log cut after its first line, the second without a line feed
+abbrev pub CutRow : Type 0
+CutRow = CutAfterLines (ascii "010703A1\n" ∷ ascii "010703A1" ∷ [])
 
 -- the rows together
 pub record Examples : Type 0 where
@@ -107,9 +165,16 @@ pub record Examples : Type 0 where
   pub sources : SourcesRow
   pub noFrames : NoFrameRow
   pub long : LongRow
+  pub wantedFrames : WantedRow
+  pub refusedTexts : RefusedTextRow
+  pub numbers : NumbersRow
   pub edges : EdgesRow
   pub firstRefused : FirstRefusedRow
   pub room : RoomRow
   pub order : OrderRow
   pub enough : EnoughRow
   pub pieces : PiecesRow
+  pub threePieces : ThreePiecesRow
+  pub pieceRoom : PieceRoomRow
+  pub linesBefore : LinesBeforeRow
+  pub cut : CutRow
