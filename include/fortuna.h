@@ -425,10 +425,11 @@ size_t fortuna_log(const uint8_t *log, size_t length, uint8_t *out, size_t room)
      before it stand in out, and the rest of out is as before.
    - Room that is always enough: for 05 4/3 of the log's length, rounded up, which is length + (length + 2) / 3; for 01
      the log's length. FORTUNA_NO_ROOM does not come then.
-   - A log of any length, in little memory: cut it after line feeds, convert piece after piece, and put together what is
-     written. Where a line of a piece is refused, stop, and add to its number the line feeds of all pieces before. So
-     come the bytes, the number and the line of the whole log. 259 characters without a line feed are more than a frame
-     has: give them as a piece, which is refused (FORTUNA_NO_FRAME). examples/c/convert.c does all this. */
+   - A log of any length, in little memory: cut it after line feeds, convert piece after piece, each with room that is
+     always enough, and put together what is written. Where a line of a piece is refused, stop, and add to its number
+     the line feeds of all pieces before. So come the bytes, the number and the line of the whole log. 259 characters
+     without a line feed are more than a frame has: give them as a piece, which is refused (FORTUNA_NO_FRAME).
+     examples/c/convert.c does all this. */
 
 /* The number; the line that was refused, from 1, and 0 where none was; and how many bytes were written to out. */
 typedef struct {

@@ -7,8 +7,8 @@
    its last line feed, so that the library sees whole lines only. What is behind the cut stays for the next piece. A log
    that is cut so becomes the same bytes as the whole one, and the line numbers of the pieces add up.
 
-   Exit status: 0 all lines were converted; 1 a line was refused, and those before it are written; 2 bad words, or
-   reading or writing failed. */
+   Exit status: 0 all lines were converted; 1 a line was refused, and those before it are written; 2 bad arguments,
+   or reading or writing failed. */
 #define _POSIX_C_SOURCE 200809L
 #include "fortuna.h"
 

@@ -126,13 +126,13 @@ lines-pieces piece (next ∷ pieces) cut =
         ap (λ (x : List ℕ). logLines (x ++ rest)) e ∙ ap (λ (x : List Line). x ++ logLines rest) (sym lines-none ∙ ap logLines (sym e))
     go (inr (before, e)) = lines-append piece _ before e
 
-counted-written : (before : ℕ) (c : Conversion) → withLines before c .written ≡ c .written
+lines-written : (before : ℕ) (c : Conversion) → withLines before c .written ≡ c .written
 unfolding withLines
-counted-written before c = refl
+lines-written before c = refl
 
-counted-number : (before : ℕ) (c : Conversion) → withLines before c .number ≡ c .number
+lines-number : (before : ℕ) (c : Conversion) → withLines before c .number ≡ c .number
 unfolding withLines
-counted-number before c = refl
+lines-number before c = refl
 
 -- a piece whose lines are all written, and one in which a line is refused
 module _ (wide : Bool) (room before : ℕ) (piece : List ℕ) (pieces : List (List ℕ)) where
@@ -171,23 +171,23 @@ module _ (wide : Bool) (room before : ℕ) (piece : List ℕ) (pieces : List (Li
         ap (λ (c : Conversion). length (c .written)) more ∙ length-with (here .written) later in
         let is = here-is whole (λ z. omega (arith, e, z)) (omega (arith, h, size)) in
         let none : convertedLines wide whole (before + 1) (logLines piece) .number ≡ 0 =
-        ap (λ (c : Conversion). c .number) is ∙ counted-number before here ∙ e in
+        ap (λ (c : Conversion). c .number) is ∙ lines-number before here ∙ e in
         let count : before + 1 + length (logLines piece) ≡ before + length (logLines piece) + 1 = omega arith in
         let last = rest (λ z. n (ap (λ (c : Conversion). c .number) more ∙ number-with (here .written) later ∙ z)) (omega (arith, h, size)) in
         goes-over wide ls whole (before + 1) (logLines piece) none
         ∙ ap (λ (x : List ℕ). withBytes x (convertedLines wide (whole - length x) (before + 1 + length (logLines piece)) ls))
-        (ap (λ (c : Conversion). c .written) is ∙ counted-written before here)
+        (ap (λ (c : Conversion). c .written) is ∙ lines-written before here)
         ∙ ap (withBytes (here .written)) (ap (λ (k : ℕ). convertedLines wide (whole - length (here .written)) k ls) count ∙ last) ∙ sym more
 
     stop : (here .number ≡ 0 → ⊥) → convertedLines wide whole (before + 1) (logLines piece ++ ls) ≡ both
     stop s =
         let end = pieces-stop s in
-        let number : both .number ≡ here .number = ap (λ (c : Conversion). c .number) end ∙ counted-number before here in
+        let number : both .number ≡ here .number = ap (λ (c : Conversion). c .number) end ∙ lines-number before here in
         let size : length (both .written) ≡ length (here .written) =
-        ap (λ (c : Conversion). length (c .written)) end ∙ ap length (counted-written before here) in
+        ap (λ (c : Conversion). length (c .written)) end ∙ ap length (lines-written before here) in
         let is = here-is whole (λ z. n (number ∙ z)) (omega (arith, h, size)) in
         let some : convertedLines wide whole (before + 1) (logLines piece) .number ≡ 0 → ⊥ =
-        λ z. s (sym (ap (λ (c : Conversion). c .number) is ∙ counted-number before here) ∙ z) in
+        λ z. s (sym (ap (λ (c : Conversion). c .number) is ∙ lines-number before here) ∙ z) in
         stops-before wide ls whole (before + 1) (logLines piece) some ∙ is ∙ sym end
 
 no-pieces : (wide : Bool) (room before : ℕ) → inPieces wide room before [] ≡ (allWritten [])

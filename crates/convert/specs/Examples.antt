@@ -31,7 +31,8 @@ FramesRow =
     × (map (textNumber true) eachFrame ≡ 0 ∷ 0 ∷ 0 ∷ 0 ∷ 0 ∷ [])
     × (map (textNumber false) eachFrame ≡ 0 ∷ 0 ∷ 0 ∷ 0 ∷ 0 ∷ [])
 
--- sources 0, 16 and 255 to 05; 0, 16, 254 and 255 to 01, 256 and 65,535 to 01 and to 05; pools above 31 and no data make frames too
+-- sources 0, 16 and 255 to 05, and 0, 16, 254 and 255 to 01; 256 and 65,535 are refused where 01 is wanted, and taken where 05 is; pools above 31
+-- and no data make frames too
 abbrev pub SourcesRow : Type 0
 SourcesRow =
     (map (converted true) (ascii "010003A1" ∷ ascii "011020" ∷ ascii "01FFFF05" ∷ [])

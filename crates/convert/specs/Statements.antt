@@ -39,7 +39,7 @@ pub record LineLaw (text : List ℕ) : Type 0 where
   -- what is not refused becomes a frame of the wanted kind, and makes the call that it made
   pub wanted : (wide : Bool) → textNumber wide text ≡ 0 → isWanted wide (frameOfText (converted wide text)) ≡ true
   pub sameCall : (wide : Bool) → textNumber wide text ≡ 0 → lineCall (converted wide text) ≡ lineCall text
-  -- an 01 to 05 to 01 trip restores the line, and so does one from 05 to 01 to 05, if there is an 01
+  -- an 01 to 05 to 01 trip restores the line, and so does one from 05 to 01 to 05, if its source is at most 255
   pub trip :
       (source pool : ℕ) → frameOfText text ≡ Event source pool →
       (textNumber false (converted true text) ≡ 0) × (converted false (converted true text) ≡ text)
@@ -138,7 +138,7 @@ Unchanged =
     (wide : Bool) (room : ℕ) (log : List ℕ) → AllWanted wide log → length log ≤ room →
     conversion wide room log ≡ allWritten log
 
--- an 01 to 05 to 01 trip restores the log, where there is enough room
+-- a log of frames, none of them 05: an 01 to 05 to 01 trip restores it, where there is enough room
 abbrev pub Trip : Type 0
 Trip =
     (there back : ℕ) (log : List ℕ) → AllWanted false log → 4 * length log ≤ 3 * there → length log ≤ back →
@@ -165,7 +165,8 @@ PiecesLaw =
     let c = inPieces wide room 0 pieces in
     (c .number ≡ 46 → ⊥) → length (c .written) ≤ whole → conversion wide whole (joined (λ piece. piece) pieces) ≡ c
 
--- the last of them may be cut inside a line that is too long for any frame: it comes to the same with whatever follows
+-- a piece that begins with more characters than any frame has and no line feed comes to 16 at its line 1, whatever follows: so the last piece may
+-- be cut there
 abbrev pub LongLineLaw : Type 0
 LongLineLaw =
     (wide : Bool) (room : ℕ) (text rest : List ℕ) → hasLineFeed text ≡ false → maxWideLine < length text →

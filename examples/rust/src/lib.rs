@@ -760,8 +760,8 @@ impl EventFrame {
 
 /// Writes a log to `out` with all its events by the frame that is wanted, and nothing else changed. Gives how many
 /// bytes that are. The first line that is refused ends it: `NoFrame`, `LargeSource` (above 255, where 01 is wanted) or
-/// `NoRoom`, the first that applies. A log may be cut after any line feed and converted piece by piece; in each piece
-/// lines count from 1.
+/// `NoRoom`, the first that applies. A log may be cut after any line feed and converted piece by piece, each with
+/// `EventFrame::room`; in each piece lines count from 1.
 pub fn convert(log: &[u8], wanted: EventFrame, out: &mut [u8]) -> Result<usize, NotConverted> {
     let wide = wanted == EventFrame::F05;
     let (at, room) = (out.as_mut_ptr(), out.len());
