@@ -155,7 +155,8 @@ decoded-more text out₀ out i v (l, front, back) e h room = (
   drop-set-lt (i + 1) out i v (omega arith) ∙ sym (drop-drop 1 i out) ∙ ap (drop 1) back ∙ drop-drop 1 i out₀,
 )
 
-pub decoded-all : (text out₀ out : List ℕ) (i : ℕ) → Decoded text out₀ out i → i ≡ length text / 2 → out ≡ decodeHex text ++ drop (length text / 2) out₀
+pub decoded-all : (text out₀ out : List ℕ) (i : ℕ) → Decoded text out₀ out i → i ≡ length text / 2
+    → out ≡ decodeHex text ++ drop (length text / 2) out₀
 decoded-all text out₀ out i (l, front, back) e =
     let z : decodeHex (drop (2 * i) text) ≡ [] = decode-end (drop (2 * i) text) (rw length-drop (omega arith)) in
     let f : take i out ≡ decodeHex text = sym (append-nil (take i out)) ∙ (rw z at front) in
@@ -202,7 +203,9 @@ encoded-more bytes at out₀ out i v w (l, front, back) e f h room =
     let g : at + 2 * (i + 1) ≡ k + 2 = omega arith in (
       simp length-set l,
       rw (g, take-two out k v w (omega arith), e, f) (append-assoc (take k out) _ _ ∙ rw (← encode-one bytes i h) front),
-      rw g (drop-set-lt (k + 2) (set out k v) (k + 1) w (omega arith) ∙ drop-set-lt (k + 2) out k v (omega arith) ∙ sym (drop-drop 2 k out) ∙ ap (drop 2) back ∙ drop-drop 2 k out₀),
+      rw g
+          (drop-set-lt (k + 2) (set out k v) (k + 1) w (omega arith) ∙ drop-set-lt (k + 2) out k v (omega arith)
+          ∙ sym (drop-drop 2 k out) ∙ ap (drop 2) back ∙ drop-drop 2 k out₀),
     )
 
 pub encoded-all : (bytes : List ℕ) (at : ℕ) (out₀ out : List ℕ) (i : ℕ) → Encoded bytes at out₀ out i → i ≡ length bytes

@@ -51,14 +51,16 @@ logged-none input out text s e l =
     }
 
 -- what was written fits
-pub steps-fit : {x : Session} {rest : List ℕ} {r : StepOutcome} {text before after : List ℕ} → Steps x rest r text before after → r .written ≤ length after
+pub steps-fit : {x : Session} {rest : List ℕ} {r : StepOutcome} {text before after : List ℕ} → Steps x rest r text before after
+    → r .written ≤ length after
 steps-fit p = rw (p .written, p .shown, length-overwrite) (p .fits)
 
 pub finishes-fit : {x : Session} {n : ℕ} {before after : List ℕ} → Finishes x n before after → n ≤ length after
 finishes-fit p = rw (p .written, p .shown, length-overwrite) (p .fits)
 
 -- and can be read back
-written-front : (line before after : List ℕ) (n : ℕ) → n ≡ length line → length line ≤ length before → after ≡ overwrite before line → take n after ≡ line
+written-front : (line before after : List ℕ) (n : ℕ) → n ≡ length line → length line ≤ length before → after ≡ overwrite before line
+    → take n after ≡ line
 written-front line before after n e h f = rw (e, f) (take-overwrite before line h)
 
 -- a step over what is left of an input

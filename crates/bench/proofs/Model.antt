@@ -17,7 +17,8 @@ use Rattle.bench.specs.Model.{lineCalls, made, answers, logCalls, modelT
 use Rattle.bench.specs.Statements.{ModelLaw}
 
 -- the state in an outcome is not printed
-answers-concrete : (calls : List (Option Call)) (outcomes : List (Outcome Reference)) → answers calls (map concreteOutcome outcomes) ≡ answers calls outcomes
+answers-concrete : (calls : List (Option Call)) (outcomes : List (Outcome Reference))
+    → answers calls (map concreteOutcome outcomes) ≡ answers calls outcomes
 unfolding answers outcomeLine concreteOutcome
 answers-concrete [] outcomes = refl
 answers-concrete (none ∷ calls) outcomes = ap (λ (l : List ℕ). numberLine noFrame ++ l) (answers-concrete calls outcomes)
@@ -32,7 +33,8 @@ printed-run [] place s = refl
 printed-run (text ∷ texts) place s = go (lineCall text) (printed-run texts)
   where
     go : (c : Option Call)
-        → ((place : ℕ) (s : Fortuna) → printedFrom s texts ≡ answers (map lineCall texts) (runFrom (λ place. step) place s (made (map lineCall texts))))
+        → ((place : ℕ) (s : Fortuna)
+        → printedFrom s texts ≡ answers (map lineCall texts) (runFrom (λ place. step) place s (made (map lineCall texts))))
         → executed s c .printed ++ printedFrom (executed s c .next) texts
         ≡ answers (c ∷ map lineCall texts) (runFrom (λ place. step) place s (made (c ∷ map lineCall texts)))
     go none rest = ap (λ (l : List ℕ). numberLine noFrame ++ l) (rest place s)

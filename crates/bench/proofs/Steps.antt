@@ -23,7 +23,8 @@ use Rattle.bench.proofs.Lines.{first-fits, first-front, feed-test, used
 feed-none : (chunk : List ℕ) → length (firstLine chunk) ≡ length chunk → hasLineFeed chunk ≡ false
 feed-none chunk e = sym (feed-test chunk) ∙ le-ltb (length (firstLine chunk)) (length chunk) (omega arith)
 
-pub feed-some : (chunk : List ℕ) → (length (firstLine chunk) ≡ length chunk → ⊥) → (hasLineFeed chunk ≡ true) × (length (firstLine chunk) < length chunk)
+pub feed-some : (chunk : List ℕ) → (length (firstLine chunk) ≡ length chunk → ⊥)
+    → (hasLineFeed chunk ≡ true) × (length (firstLine chunk) < length chunk)
 feed-some chunk n =
     let less : length (firstLine chunk) < length chunk = omega (arith, n, first-fits chunk) in
     (sym (feed-test chunk) ∙ lt-ltb (length (firstLine chunk)) (length chunk) less, less)
@@ -43,7 +44,8 @@ module _ (x : Session) (chunk : List ℕ) where
   unfolding stepSession
   step-some e = rw e
 
-  printed-some : hasLineFeed chunk ≡ true → stepPrinted x chunk ≡ lineOf (extended x (firstLine chunk) .state) (heldLine (extended x (firstLine chunk))) .printed
+  printed-some : hasLineFeed chunk ≡ true
+      → stepPrinted x chunk ≡ lineOf (extended x (firstLine chunk) .state) (heldLine (extended x (firstLine chunk))) .printed
   unfolding stepPrinted
   printed-some e = rw e
 
@@ -59,7 +61,8 @@ module _ (s : Fortuna) (text : List ℕ) (held : ℕ) (chunk : List ℕ) (n h : 
   extended-is = rw (added .0, added .1, front)
 
   -- no line feed
-  pub steps-on : (out : List ℕ) → n ≡ length chunk → Steps (session s text held) chunk (record { next = s; held = h; used = n; written = 0 }) after out out
+  pub steps-on : (out : List ℕ) → n ≡ length chunk
+      → Steps (session s text held) chunk (record { next = s; held = h; used = n; written = 0 }) after out out
   steps-on out e =
       let none = feed-none chunk (sym count ∙ e) in
       let quiet = printed-none (session s text held) chunk none in
@@ -72,7 +75,8 @@ module _ (s : Fortuna) (text : List ℕ) (held : ℕ) (chunk : List ℕ) (n h : 
       }
 
   -- a line feed, and the line so far was carried out
-  module _ (line out out′ : List ℕ) (o : LineOutcome) (some : n ≡ length chunk → ⊥) (so-far : line ≡ take h after) (p : Prints (lineOf s line) o out out′) where
+  module _ (line out out′ : List ℕ) (o : LineOutcome) (some : n ≡ length chunk → ⊥) (so-far : line ≡ take h after)
+      (p : Prints (lineOf s line) o out out′) where
     same : hasLineFeed chunk ≡ true → stepPrinted (session s text held) chunk ≡ lineOf s line .printed
     unfolding heldLine
     same fed =
@@ -99,7 +103,8 @@ module _ (s : Fortuna) (text : List ℕ) (held : ℕ) (chunk : List ℕ) (n h : 
         }
 
 -- a step over what is left of a chunk uses a character or more, and no more than there are
-pub steps-used : (chunk : List ℕ) (at : ℕ) (x : Session) (r : StepOutcome) (text before after : List ℕ) → Steps x (take (length chunk - at) (drop at chunk)) r text before after
+pub steps-used : (chunk : List ℕ) (at : ℕ) (x : Session) (r : StepOutcome) (text before after : List ℕ)
+    → Steps x (take (length chunk - at) (drop at chunk)) r text before after
     → at < length chunk → (0 < r .used) × (at + r .used ≤ length chunk)
 steps-used chunk at x r text before after p h =
     let q : Steps x (drop at chunk) r text before after = rw part-end at p in

@@ -107,7 +107,8 @@ module _ (wide : Bool) (room k : ℕ) (l : Line) (ls : List Line) where
   unfolding convertedLines
   goes-on h = rw (eq-eqb (refusalOf wide room l) 0 h)
 
-  pub stops : (refusalOf wide room l ≡ 0 → ⊥) → convertedLines wide room k (l ∷ ls) ≡ record { written = []; number = refusalOf wide room l; line = k }
+  pub stops : (refusalOf wide room l ≡ 0 → ⊥)
+      → convertedLines wide room k (l ∷ ls) ≡ record { written = []; number = refusalOf wide room l; line = k }
   unfolding convertedLines
   stops h = rw (ne-eqb (refusalOf wide room l) 0 h)
 

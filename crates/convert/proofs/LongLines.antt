@@ -21,7 +21,8 @@ unfolding conversion
 long-line wide room text rest e h =
     let log = text ++ rest in
     let behind = logLines (drop (usedBy log) log) in
-    let size : length (firstLine log) ≡ length text + length (firstLine rest) = ap length (first-append text rest e) ∙ length-append text (firstLine rest) in
+    let size : length (firstLine log) ≡ length text + length (firstLine rest) =
+    ap length (first-append text rest e) ∙ length-append text (firstLine rest) in
     let some : 0 < length log = omega (arith, h, length-append text rest) in
     let stray : textNumber wide (firstLine log) ≡ 16 = stray-text wide (firstLine log) .1 (too-long (firstLine log) (omega (arith, h, size))) in
     let number : refusalOf wide room (firstOf log) ≡ 16 = refusal-text wide room (firstOf log) (λ z. omega (arith, stray, z)) ∙ stray in

@@ -36,10 +36,12 @@ module _ (wide : Bool) (room : ℕ) (l : Line) where
       go (inr (inl r)) = (r .text, omega (arith, r .short, length-written wide l))
       go (inr (inr r)) = absurd (text-not-46 wide room l (sym (r .number) ∙ e))
 
-  no-other : (refusalOf wide room l ≡ 16 → ⊥) → (refusalOf wide room l ≡ 43 → ⊥) → (refusalOf wide room l ≡ 46 → ⊥) → refusalOf wide room l ≡ 0
+  no-other : (refusalOf wide room l ≡ 16 → ⊥) → (refusalOf wide room l ≡ 43 → ⊥) → (refusalOf wide room l ≡ 46 → ⊥)
+      → refusalOf wide room l ≡ 0
   no-other a b c = go (which wide room l) (text-numbers wide (l .text))
     where
-      go : Which → (textNumber wide (l .text) ≡ 0) ⊎ ((textNumber wide (l .text) ≡ 16) ⊎ (textNumber wide (l .text) ≡ 43)) → refusalOf wide room l ≡ 0
+      go : Which → (textNumber wide (l .text) ≡ 0) ⊎ ((textNumber wide (l .text) ≡ 16) ⊎ (textNumber wide (l .text) ≡ 43))
+          → refusalOf wide room l ≡ 0
       go (inl p) n = no-refusal wide room l (p .text) (p .fits)
       go (inr (inl r)) n = absurd (c (r .number))
       go (inr (inr r)) (inl n) = absurd (r .some n)

@@ -39,7 +39,8 @@ other-room wide room other k (l ∷ ls) n h =
     go (which wide room l) (other-room wide (room - length (writtenOf wide l)) (other - length (writtenOf wide l)) (suc k) ls)
   where
     go : LineAccepted wide room l ⊎ (RoomRefused wide room l ⊎ TextRefused wide room l)
-        → ((rest wide room other k l ls room .number ≡ 46 → ⊥) → length (rest wide room other k l ls room .written) ≤ other - length (writtenOf wide l)
+        → ((rest wide room other k l ls room .number ≡ 46 → ⊥)
+        → length (rest wide room other k l ls room .written) ≤ other - length (writtenOf wide l)
         → rest wide room other k l ls other ≡ rest wide room other k l ls room)
         → convertedLines wide other k (l ∷ ls) ≡ convertedLines wide room k (l ∷ ls)
     go (inl a) same =

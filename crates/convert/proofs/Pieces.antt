@@ -64,7 +64,8 @@ module _ (wide : Bool) (ms : List Line) where
       let same : k + 0 ≡ k = omega arith in
       ap₂ (λ (r n : ℕ). convertedLines wide r n ms) z same
 
-  followed-more : (room k : ℕ) (bytes : List ℕ) (c : Conversion) → withBytes bytes (followed (room - length bytes) k c) ≡ followed room k (withBytes bytes c)
+  followed-more : (room k : ℕ) (bytes : List ℕ) (c : Conversion)
+      → withBytes bytes (followed (room - length bytes) k c) ≡ followed room k (withBytes bytes c)
   followed-more room k bytes c =
       let less : room - length bytes - length (c .written) ≡ room - length (withBytes bytes c .written) = omega (arith, length-with bytes c) in
       with-with bytes (c .written) _ ∙ ap (λ (r : ℕ). withBytes (bytes ++ c .written) (convertedLines wide r k ms)) less
@@ -114,7 +115,8 @@ module _ (wide : Bool) (ms : List Line) where
 lines-pieces : (piece : List ℕ) (pieces : List (List ℕ)) → CutAfterLines (piece ∷ pieces)
     → logLines (joined (λ p. p) (piece ∷ pieces)) ≡ logLines piece ++ logLines (joined (λ p. p) pieces)
 unfolding joined
-lines-pieces piece [] cut = ap logLines (append-nil piece) ∙ sym (append-nil (logLines piece)) ∙ ap (λ (x : List Line). logLines piece ++ x) (sym lines-none)
+lines-pieces piece [] cut =
+    ap logLines (append-nil piece) ∙ sym (append-nil (logLines piece)) ∙ ap (λ (x : List Line). logLines piece ++ x) (sym lines-none)
 lines-pieces piece (next ∷ pieces) cut =
     go (cut 0 (omega arith))
   where

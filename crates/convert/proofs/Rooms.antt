@@ -37,7 +37,8 @@ shorter : (text : List ℕ) (source pool : ℕ) (e : frameOfText text ≡ WideEv
     → length (converted false text) ≤ length text
 shorter text source pool e h =
     let before : length text ≡ 4 + length (wide-shape text source pool e .rest) = ap length (high-zero text source pool e h) ∙ omega arith in
-    let new : length (converted false text) ≡ 2 + length (wide-shape text source pool e .rest) = ap length (narrower-text text source pool e h) ∙ omega arith in
+    let new : length (converted false text) ≡ 2 + length (wide-shape text source pool e .rest) =
+    ap length (narrower-text text source pool e h) ∙ omega arith in
     omega (arith, before, new)
 
 -- a line that stays keeps its length

@@ -40,11 +40,17 @@ walked-none wide log out = record {
   kept = refl;
   lines-few = omega arith;
   rest = refl;
-  whole = unfold conversion withBytes in (let z : length out - 0 ≡ length out = omega arith in ap (λ (n : ℕ). convertedLines wide n 1 (logLines log)) (sym z));
+  whole = begun;
 }
+  where
+    begun : conversion wide (length out) log ≡ withBytes (take 0 out) (convertedLines wide (length out - 0) 1 (logLines log))
+    begun =
+        unfold conversion withBytes in
+        let z : length out - 0 ≡ length out = omega arith in ap (λ (n : ℕ). convertedLines wide n 1 (logLines log)) (sym z)
 
 -- what a buffer holds where its front is written and the rest is as it was
-front-is : (out₀ out : List ℕ) (n : ℕ) → n ≤ length out₀ → length out ≡ length out₀ → drop n out ≡ drop n out₀ → out ≡ overwrite out₀ (take n out)
+front-is : (out₀ out : List ℕ) (n : ℕ) → n ≤ length out₀ → length out ≡ length out₀ → drop n out ≡ drop n out₀
+    → out ≡ overwrite out₀ (take n out)
 front-is out₀ out n h e r =
     let size : length (take n out) ≡ n = length-take-le n out (omega arith) in
     sym (take-append-drop n out) ∙ ap (λ (x : List ℕ). take n out ++ x) (r ∙ ap (λ (k : ℕ). drop k out₀) (sym size))
@@ -141,10 +147,10 @@ module _ (wide : Bool) (log out₀ out : List ℕ) (at line written : ℕ) (w : 
         ∙ ap (λ (x : List ℕ). here ∷ logLines x) (ap (λ (n : ℕ). drop n ahead) (sym used-is) ∙ drop-drop (o .used) at log)
 
     -- what is left to do begins with this line
-    abbrev todo : Conversion
-    todo = convertedLines wide (length part) line (here ∷ behind)
+    abbrev remaining : Conversion
+    remaining = convertedLines wide (length part) line (here ∷ behind)
 
-    whole-here : conversion wide (length out₀) log ≡ withBytes (take written out) todo
+    whole-here : conversion wide (length out₀) log ≡ withBytes (take written out) remaining
     whole-here =
         w .whole
         ∙ ap₂ (λ (k : ℕ) (ls : List Line). withBytes (take written out) (convertedLines wide k line ls)) (sym part-room) lines-here

@@ -100,7 +100,9 @@ module _ (wide : Bool) (room : ℕ) (log : List ℕ) where
 
   first-pass : Each (Passes wide) writtenLines
   unfolding count
-  first-pass = each-first (Passes wide) (logLines log) _ (λ j h. line-accepted wide _ (getD (logLines log) j noLine) (came-log wide room log .passed j h) .text)
+  first-pass =
+      each-first (Passes wide) (logLines log) _
+      (λ j h. line-accepted wide _ (getD (logLines log) j noLine) (came-log wide room log .passed j h) .text)
 
   written-is : conversion wide room log .written ≡ joined wholeLine (map (convertedLine wide) writtenLines)
   unfolding count

@@ -59,7 +59,8 @@ module _ (wide : Bool) (room : ℕ) (text : List ℕ) (ended : Bool) (action : A
 
 -- a line that is taken, by the text that was stored
 pub line-taken : (wide ended : Bool) (text new out out′ : List ℕ) (r : LineAnswer) (action : Action) → actionOf wide (frameOfText text) ≡ action
-    → actionNumber action ≡ 0 → new ≡ carriedOut action text → StoresText (new ++ endOf ended) r out out′ → ConvertsLine wide (lineWith text ended) r out out′
+    → actionNumber action ≡ 0 → new ≡ carriedOut action text → StoresText (new ++ endOf ended) r out out′
+    → ConvertsLine wide (lineWith text ended) r out out′
 line-taken wide ended text new out out′ r action is n e g =
     let whole : new ++ endOf ended ≡ carriedOut action text ++ endOf ended = ap (λ (x : List ℕ). x ++ endOf ended) e in
     subst₂ (λ (k : ℕ) (bytes : List ℕ). GivesLine k bytes r out out′)

@@ -57,7 +57,8 @@ LongRow =
     (converted true (ascii "0107" ++ replicate 252 48) ≡ ascii "050007" ++ replicate 252 48)
     × (converted false (ascii "050007" ++ replicate 252 48) ≡ ascii "0107" ++ replicate 252 48)
     × (map (λ (n : ℕ). textNumber true (ascii "0107" ++ replicate n 48)) (252 ∷ 253 ∷ 254 ∷ []) ≡ 0 ∷ 16 ∷ 16 ∷ [])
-    × (map (λ (n : ℕ). textNumber false (ascii "050007" ++ replicate n 48)) (250 ∷ 251 ∷ 252 ∷ 253 ∷ 254 ∷ []) ≡ 0 ∷ 16 ∷ 0 ∷ 16 ∷ 16 ∷ [])
+    × (map (λ (n : ℕ). textNumber false (ascii "050007" ++ replicate n 48)) (250 ∷ 251 ∷ 252 ∷ 253 ∷ 254 ∷ [])
+    ≡ 0 ∷ 16 ∷ 0 ∷ 16 ∷ 16 ∷ [])
 
 -- which frames are of the wanted kind
 abbrev pub WantedRow : Type 0
@@ -101,7 +102,8 @@ FirstRefusedRow =
 abbrev pub RoomRow : Type 0
 RoomRow =
     (map (λ (room : ℕ). conversion true room (ascii "010703A1\n010703A1")) (21 ∷ 20 ∷ 11 ∷ 10 ∷ 0 ∷ [])
-    ≡ cameTo (ascii "05000703A1\n05000703A1") 0 0 ∷ cameTo (ascii "05000703A1\n") 46 2 ∷ cameTo (ascii "05000703A1\n") 46 2 ∷ cameTo [] 46 1 ∷ cameTo [] 46 1
+    ≡ cameTo (ascii "05000703A1\n05000703A1") 0 0 ∷ cameTo (ascii "05000703A1\n") 46 2 ∷ cameTo (ascii "05000703A1\n") 46 2
+    ∷ cameTo [] 46 1 ∷ cameTo [] 46 1
     ∷ [])
     × (map (λ (room : ℕ). conversion true room (ascii "010703A1\n010703A1\n")) (22 ∷ 21 ∷ [])
     ≡ cameTo (ascii "05000703A1\n05000703A1\n") 0 0 ∷ cameTo (ascii "05000703A1\n") 46 2 ∷ [])

@@ -62,7 +62,8 @@ pub record OrderLaw (wide : Bool) (room : ℕ) (l : Line) : Type 0 where
       (refusalOf wide room l ≡ 46)
       ↔ ((textNumber wide (l .text) ≡ 0) × (room < length (converted wide (l .text)) + length (endOf (l .ended))))
   pub else :
-      (refusalOf wide room l ≡ 16 → ⊥) → (refusalOf wide room l ≡ 43 → ⊥) → (refusalOf wide room l ≡ 46 → ⊥) → refusalOf wide room l ≡ 0
+      (refusalOf wide room l ≡ 16 → ⊥) → (refusalOf wide room l ≡ 43 → ⊥) → (refusalOf wide room l ≡ 46 → ⊥) →
+      refusalOf wide room l ≡ 0
 
 abbrev pub OrderLaws : Type 0
 OrderLaws = (wide : Bool) (room : ℕ) (l : Line) → OrderLaw wide room l

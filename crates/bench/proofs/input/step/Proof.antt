@@ -29,10 +29,12 @@ append-requires c κs = search needs
 
 returns : tie.Need-returns
 returns c =
-    let a = c .before .before .before .before .before .before .args in
-    let n = c .before .before .before .before .line-length in
-    let added = c .before .append in
-    steps-on (a .state) (a .text .now) (a .held) (a .chunk .now) (n .result) (added .result) _ (n .ensures) (added .ensures) (a .out .now) (c .if1 .taken)
+    let added = c .before in
+    let measured = added .before .before .before in
+    let a = measured .before .before .args in
+    let n = measured .line-length in
+    steps-on (a .state) (a .text .now) (a .held) (a .chunk .now) (n .result) (added .append .result) _ (n .ensures) (added .append .ensures)
+    (a .out .now) (c .if1 .taken)
 
 held-line-requires : tie.Need-held-line-requires
 held-line-requires c κs = search needs
@@ -42,19 +44,26 @@ line-requires c κs = search needs
 
 add-t14 : tie.Need-add-t14
 add-t14 c =
-    let start = c .before .before .before .before .before .before .before .before .before .before .before .before in
-    let n = c .before .before .before .before .before .before .before .before .before .before .line-length in
-    let more = feed-some (start .args .chunk .now) (λ e. c .before .before .before .before .before .before .if1 .left (n .ensures ∙ e)) in
+    let carried = c .before in
+    let ended = carried .before .before .before .before .before in
+    let added = ended .before in
+    let measured = added .before .before .before in
+    let start = measured .before .before in
+    let n = measured .line-length in
+    let more = feed-some (start .args .chunk .now) (λ e. ended .if1 .left (n .ensures ∙ e)) in
     omega (arith, fits start, n .ensures, more .1)
 
 returns-2 : tie.Need-returns-2
 returns-2 c =
-    let a = c .before .before .before .before .before .before .before .before .before .before .before .before .args in
-    let n = c .before .before .before .before .before .before .before .before .before .before .line-length in
-    let added = c .before .before .before .before .before .before .before .append in
-    steps-ended (a .state) (a .text .now) (a .held) (a .chunk .now) (n .result) (added .result) _ (n .ensures) (added .ensures)
-    _ (a .out .now) _ (c .before .line .result)
-    (c .before .before .before .before .before .before .if1 .left) (c .before .before .before .held-line .ensures) (c .before .line .ensures)
+    let carried = c .before in
+    let held = carried .before .before in
+    let ended = held .before .before .before in
+    let added = ended .before in
+    let measured = added .before .before .before in
+    let a = measured .before .before .args in
+    let n = measured .line-length in
+    steps-ended (a .state) (a .text .now) (a .held) (a .chunk .now) (n .result) (added .append .result) _ (n .ensures) (added .append .ensures)
+    _ (a .out .now) _ (carried .line .result) (ended .if1 .left) (held .held-line .ensures) (carried .line .ensures)
 
 pub step-spec : {M : Type 1} → statement M
 step-spec =
