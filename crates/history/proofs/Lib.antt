@@ -1,0 +1,5 @@
+pub mod Strings
+pub mod Entries
+pub mod Histories
+pub mod Sizes
+pub mod Examples

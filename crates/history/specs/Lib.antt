@@ -1,0 +1,4 @@
+pub mod Strings
+pub mod Reader
+pub mod Statements
+pub mod Examples
