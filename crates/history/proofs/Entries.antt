@@ -1,7 +1,7 @@
 -- An event's bytes in a string and the reader at their place: each gives the other.
 -- Assumes nothing.
 use mathlib.Core.Path.{_≡_, refl, sym, ap, subst₂, _∙_}
-use mathlib.Core.Bool.{true, false, _&&_}
+use mathlib.Core.Bool.{true, false}
 use mathlib.Core.List.{List, [], _∷_, _++_}
 use Prim.Native.Nat.{ℕ, suc, _+_, _-_, _/_, _%_, _≤_, _<_}
 use native.Mathlib.Numerals.{add-one, add-two, add-three}
@@ -15,7 +15,6 @@ use Rattle.pools.specs.Events.{maxSource, maxData, header, headerLength, eventB
 use Rattle.history.specs.Strings.{Event, bytesOf, Allowed}
 use Rattle.history.specs.Reader.{sourceAt, lengthAt, wholeAt, sizeAt, dataAt, entryAt, number, foundEvent}
 use Rattle.history.specs.Statements.{Bytes, RefusalLaw, Stands, EntryLaw, EntryLaws}
-use Rattle.history.specs.declared.answer.Answer.{Answer}
 use Rattle.history.specs.declared.answer.Answer.the-variants.{Found, End, NoEvent}
 use Rattle.history.proofs.Strings.{length-bytes, same-event}
 
@@ -40,7 +39,14 @@ module _ (front rest : List ℕ) (e : Event) where
   whole-here : Allowed e → wholeAt around (length front) ≡ true
   unfolding wholeAt
   whole-here a =
-      rw (length-here, length-around, lt-ltb 0 (length (e .content)) (a .some), le-leb (length (e .content)) maxData (a .short), le-leb (length front + gain (length (e .content))) (length front + (gain (length (e .content)) + length rest)) (omega arith))
+      let n = length (e .content) in
+      rw (
+        length-here,
+        length-around,
+        lt-ltb 0 n (a .some),
+        le-leb n maxData (a .short),
+        le-leb (length front + gain n) (length front + (gain n + length rest)) (omega arith),
+      )
 
   content-here : take (length (e .content)) (drop (length front + headerLength) around) ≡ e .content
   unfolding headerLength bytesOf eventBytes header
@@ -136,13 +142,17 @@ module _ (string : List ℕ) (place : ℕ) (bytes : Bytes string) (w : wholeAt s
       high : sourceAt string place / 256 ≡ getD string (place + 1) 0
       high = unfold sourceAt in omega (arith, bytes place)
 
-      after : take (lengthAt string place) (drop (place + headerLength) string) ++ drop (place + gain (lengthAt string place)) string ≡ drop (place + headerLength) string
+      after :
+          let content = drop (place + headerLength) string in
+          take (lengthAt string place) content ++ drop (place + gain (lengthAt string place)) string ≡ content
       after =
           let n : place + gain (lengthAt string place) ≡ place + headerLength + lengthAt string place = unfold gain in omega arith in
           rw (n, ← drop-drop (lengthAt string place) (place + headerLength) string)
           (take-append-drop (lengthAt string place) (drop (place + headerLength) string))
 
-      joins : bytesOf here ++ drop (place + gain (lengthAt string place)) string ≡ getD string place 0 ∷ getD string (place + 1) 0 ∷ getD string (place + 2) 0 ∷ drop (place + 3) string
+      joins :
+          bytesOf here ++ drop (place + gain (lengthAt string place)) string
+          ≡ getD string place 0 ∷ getD string (place + 1) 0 ∷ getD string (place + 2) 0 ∷ drop (place + 3) string
       joins =
           bytes-by here (drop (place + gain (lengthAt string place)) string) _ _ _ _ _
           (unfold foundEvent in low) (unfold foundEvent in high) (length-is ∙ (unfold lengthAt in refl)) content-is

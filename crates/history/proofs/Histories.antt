@@ -2,9 +2,8 @@
 -- Assumes nothing.
 use mathlib.Core.Path.{_≡_, refl, sym, ap, subst, _∙_}
 use mathlib.Core.Logic.{_⊎_, inl, inr, ⊎-elim}
-use mathlib.Core.List.{List, [], _∷_, _++_, append-assoc, append-nil, List·Memᴰ, List·Memᴰ·head, List·Memᴰ·tail, List·Memᴰ·not-nil, List·Memᴰ·cases-cons}
+use mathlib.Core.List.{List, [], _∷_, _++_, append-assoc, append-nil, List·Memᴰ·head, List·Memᴰ·tail, List·Memᴰ·not-nil, List·Memᴰ·cases-cons}
 use Prim.Native.Nat.{ℕ, zero, suc, _+_, _≤_, _<_}
-use native.Mathlib.Numerals.{add-one}
 use native.Mathlib.Omega.{arith}
 use lib.ListN.{length, drop, length-append}
 use lib.Seq.{drop-length}
@@ -12,11 +11,11 @@ use Rattle.laws.specs.Lists.{joined}
 use Rattle.pools.specs.Events.{headerLength, gain}
 use Rattle.history.specs.Strings.{Event, bytesOf, stringOf, Allowed, AllAllowed}
 use Rattle.history.specs.Reader.{lengthAt, entryAt, foundEvent, History, thenRead, historyFrom, history}
-use Rattle.history.specs.Statements.{Bytes, Stands, EntryLaw, ReadBack, HistoryLaw, HistoryLaws}
+use Rattle.history.specs.Statements.{Bytes, Stands, ReadBack, HistoryLaws}
 use Rattle.history.specs.declared.answer.Answer.{Answer}
 use Rattle.history.specs.declared.answer.Answer.the-variants.{Found, End, NoEvent}
 use Rattle.history.proofs.Strings.{length-bytes}
-use Rattle.history.proofs.Entries.{eventHere, Finding, at-end, at-event, at-nothing, finding, at-place, here-allowed, here-stands, Tested, tested, next-is, entry-end, entry-laws}
+use Rattle.history.proofs.Entries.{eventHere, Finding, at-end, at-event, at-nothing, finding, at-place, here-allowed, here-stands, tested, next-is, entry-end, entry-laws}
 
 first-allowed : (e : Event) (es : List Event) → AllAllowed (e ∷ es) → Allowed e
 first-allowed e es a = a e (List·Memᴰ·head refl)
@@ -81,7 +80,9 @@ read-from (suc n) [] front a h =
     at-the-end n (front ++ stringOf []) (length front)
     (entry-end (front ++ stringOf []) (length front) (unfold stringOf joined in rw (append-nil front) refl))
 read-from (suc n) (e ∷ es) front a h =
-    let p = at-place e (front ++ stringOf (e ∷ es)) (length front) (first-allowed e es a) (record { front = front; rest = stringOf es; whole = unfold stringOf joined in refl; starts = refl }) in
+    let stands : Stands e (front ++ stringOf (e ∷ es)) (length front) =
+    record { front = front; rest = stringOf es; whole = unfold stringOf joined in refl; starts = refl } in
+    let p = at-place e (front ++ stringOf (e ∷ es)) (length front) (first-allowed e es a) stands in
     found-led n (front ++ stringOf (e ∷ es)) (length front) _ _ _ (p .0)
     ∙ led-by (p .1) (onward e es front n (read-from n es (front ++ bytesOf e) (others-allowed e es a) (shorter e es n h)))
     ∙ led-complete e es (front ++ stringOf (e ∷ es))
@@ -113,12 +114,15 @@ ends-reads string place p e =
       stops = inl (refl, ap (entryAt string) (sym p) ∙ e);
     }
 
-refused-reads : (string : List ℕ) (place : ℕ) → entryAt string place ≡ NoEvent place → Reads string place (record { events = []; number = 44; place = place })
+refused-reads :
+    (string : List ℕ) (place : ℕ) → entryAt string place ≡ NoEvent place →
+    Reads string place (record { events = []; number = 44; place = place })
 unfolding stringOf joined
 refused-reads string place e = record { allowed = none-allowed; front = refl; reached = omega arith; stops = inr (refl, e) }
 
 led-reads : (string : List ℕ) (place : ℕ) (e : Event) (h : History) → Allowed e
-    → drop place string ≡ bytesOf e ++ drop (place + length (bytesOf e)) string → Reads string (place + length (bytesOf e)) h → Reads string place (led e h)
+    → drop place string ≡ bytesOf e ++ drop (place + length (bytesOf e)) string → Reads string (place + length (bytesOf e)) h
+    → Reads string place (led e h)
 unfolding led stringOf joined
 led-reads string place e h a p r =
     record {
@@ -129,7 +133,9 @@ led-reads string place e h a p r =
     }
 
 -- a string has more steps than it needs
-reads-from : (n : ℕ) (string : List ℕ) (place : ℕ) → Bytes string → place ≤ length string → length string < place + n → Reads string place (historyFrom n string place)
+reads-from :
+    (n : ℕ) (string : List ℕ) (place : ℕ) → Bytes string → place ≤ length string → length string < place + n →
+    Reads string place (historyFrom n string place)
 reads-from zero string place b h k = absurd (omega arith)
 reads-from (suc n) string place b h k = go (finding string place) (reads-from n string)
   where

@@ -2,4 +2,9 @@ pub mod Strings
 pub mod Entries
 pub mod Histories
 pub mod Sizes
+pub mod Calls
+pub mod Runs
+pub mod Hashing
+pub mod Entering
+pub mod Gaining
 pub mod Examples

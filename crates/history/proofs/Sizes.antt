@@ -1,7 +1,7 @@
 -- What the reader's code comes to, test by test.
 -- Assumes nothing.
-use mathlib.Core.Path.{_≡_, refl, sym, _∙_}
-use mathlib.Core.Bool.{Bool, true, false, true≢false}
+use mathlib.Core.Path.{_≡_, sym, _∙_}
+use mathlib.Core.Bool.{true, false, true≢false}
 use mathlib.Core.List.{List, []}
 use Prim.Native.Nat.{ℕ, _+_, _-_, _≤_, _<_}
 use native.Mathlib.Omega.{arith}
@@ -11,7 +11,7 @@ use borrow.Author.Tests.{lt-ltb, le-leb, ne-eqb, ltb-true, ltb-false}
 use Rattle.laws.proofs.Cases.{by-test, split}
 use Rattle.pools.specs.Events.{maxData, headerLength, gain}
 use Rattle.history.specs.Reader.{sourceAt, lengthAt, wholeAt, sizeAt, dataAt, entryAt}
-use Rattle.history.specs.declared.answer.Answer.the-variants.{Found, End, NoEvent}
+use Rattle.history.specs.declared.answer.Answer.the-variants.{Found, NoEvent}
 use Rattle.history.proofs.Entries.{Tested, tested}
 
 -- ---- the size
@@ -83,8 +83,9 @@ module _ (string : List ℕ) (place : ℕ) where
   unfolding entryAt
   entry-nothing n l e z = rw (ne-eqb place (length string) l, size-none (sym e ∙ z))
 
-  pub entry-found : (n source : ℕ) → (place ≡ length string → ⊥) → n ≡ sizeAt string place → (n ≡ 0 → ⊥) → source ≡ sourceAt string place
-      → Found source (place + 3) (place + 3 + n) ≡ entryAt string place
+  pub entry-found :
+      (n source : ℕ) → (place ≡ length string → ⊥) → n ≡ sizeAt string place → (n ≡ 0 → ⊥) → source ≡ sourceAt string place →
+      Found source (place + 3) (place + 3 + n) ≡ entryAt string place
   unfolding entryAt gain headerLength
   entry-found n source l e h q =
       let s = size-some (λ z. h (e ∙ z)) in

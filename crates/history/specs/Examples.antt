@@ -1,50 +1,136 @@
--- Rows worked out by the definitions: the edges of what a whole event is, and of the end.
+-- Rows worked out by the definitions: the edges of what a whole event is, of the end, and of the schedule.
 -- Assumes nothing.
 use mathlib.Core.Path.{_≡_}
+use mathlib.Core.Bool.{true}
 use mathlib.Core.List.{List, [], _∷_, _++_, map}
 use Prim.Native.Nat.{ℕ}
-use lib.ListN.{replicate}
-use Rattle.history.specs.Strings.{stringOf}
-use Rattle.history.specs.Reader.{entryAt, history}
+use lib.Dec.{eqb}
+use lib.ListN.{take, replicate}
+use Rattle.pools.specs.Calls.{event, request, update, write, draw, shuffle}
+use Rattle.reference.specs.Provenance.{PoolUse}
+use Rattle.history.specs.Strings.{Event, stringOf}
+use Rattle.history.specs.Reader.{entryAt, dataAt, number, history}
+use Rattle.history.specs.Runs.{bookedEvent, usesOf, workedOut}
 use Rattle.history.specs.declared.answer.Answer.the-variants.{Found, End, NoEvent}
 
 -- 01's event and one of source 900: 07 00 02 A1 B2, 84 03 01 05
-abbrev pub twoEvents : List ℕ
-twoEvents = 7 ∷ 0 ∷ 2 ∷ 161 ∷ 178 ∷ 132 ∷ 3 ∷ 1 ∷ 5 ∷ []
+abbrev pub twoEvents : List Event
+twoEvents = record { source = 7; content = 161 ∷ 178 ∷ [] } ∷ record { source = 900; content = 5 ∷ [] } ∷ []
+
+abbrev pub twoString : List ℕ
+twoString = 7 ∷ 0 ∷ 2 ∷ 161 ∷ 178 ∷ 132 ∷ 3 ∷ 1 ∷ 5 ∷ []
+
+-- the two events give this string, in the other order another one; no event gives the empty string
+abbrev pub StringsRow : Type 0
+StringsRow =
+    (stringOf twoEvents ≡ twoString)
+    × (stringOf (record { source = 900; content = 5 ∷ [] } ∷ record { source = 7; content = 161 ∷ 178 ∷ [] } ∷ [])
+    ≡ 132 ∷ 3 ∷ 1 ∷ 5 ∷ 7 ∷ 0 ∷ 2 ∷ 161 ∷ 178 ∷ []) × (stringOf [] ≡ [])
 
 -- at each place: the two events at 0 and 5, the end at 9, 44 in between and past the end
 abbrev pub PlacesRow : Type 0
 PlacesRow =
-    map (entryAt twoEvents) (0 ∷ 1 ∷ 2 ∷ 3 ∷ 4 ∷ 5 ∷ 6 ∷ 7 ∷ 8 ∷ 9 ∷ 10 ∷ [])
-    ≡ Found 7 3 5 ∷ NoEvent 1 ∷ NoEvent 2 ∷ NoEvent 3 ∷ NoEvent 4 ∷ Found 900 8 9 ∷ NoEvent 6 ∷ NoEvent 7 ∷ NoEvent 8 ∷ End ∷ NoEvent 10 ∷ []
+    map (entryAt twoString) (0 ∷ 1 ∷ 2 ∷ 3 ∷ 4 ∷ 5 ∷ 6 ∷ 7 ∷ 8 ∷ 9 ∷ 10 ∷ [])
+    ≡ Found 7 3 5 ∷ NoEvent 1 ∷ NoEvent 2 ∷ NoEvent 3 ∷ NoEvent 4
+    ∷ Found 900 8 9 ∷ NoEvent 6 ∷ NoEvent 7 ∷ NoEvent 8 ∷ End ∷ NoEvent 10 ∷ []
 
--- no byte, 1 byte, 32 and 33 bytes of data; the last byte missing; one byte more is no event of its own
+-- their data, and none elsewhere
+abbrev pub DataRow : Type 0
+DataRow =
+    map (dataAt twoString) (0 ∷ 1 ∷ 2 ∷ 3 ∷ 4 ∷ 5 ∷ 6 ∷ 7 ∷ 8 ∷ 9 ∷ 10 ∷ [])
+    ≡ (161 ∷ 178 ∷ []) ∷ [] ∷ [] ∷ [] ∷ [] ∷ (5 ∷ []) ∷ [] ∷ [] ∷ [] ∷ [] ∷ [] ∷ []
+
+-- an event starts at any place whose bytes are those of one: also inside another event's data
+abbrev pub InsideRow : Type 0
+InsideRow = map (entryAt (7 ∷ 0 ∷ 4 ∷ 1 ∷ 2 ∷ 1 ∷ 9 ∷ [])) (0 ∷ 3 ∷ 7 ∷ []) ≡ Found 7 3 7 ∷ Found 513 6 7 ∷ End ∷ []
+
+-- the empty string; no byte, 1 byte, 32 and 33 bytes of data
 abbrev pub SizesRow : Type 0
 SizesRow =
     map (λ string. entryAt string 0)
-    (([]) ∷ (7 ∷ 0 ∷ 0 ∷ []) ∷ (7 ∷ 0 ∷ 1 ∷ 9 ∷ []) ∷ (7 ∷ 0 ∷ 32 ∷ replicate 32 9) ∷ (7 ∷ 0 ∷ 33 ∷ replicate 33 9)
-    ∷ (7 ∷ 0 ∷ 2 ∷ 9 ∷ []) ∷ (255 ∷ 255 ∷ 1 ∷ 9 ∷ 9 ∷ []) ∷ [])
-    ≡ End ∷ NoEvent 0 ∷ Found 7 3 4 ∷ Found 7 3 35 ∷ NoEvent 0 ∷ NoEvent 0 ∷ Found 65535 3 4 ∷ []
+    (([]) ∷ (7 ∷ 0 ∷ 0 ∷ []) ∷ (7 ∷ 0 ∷ 0 ∷ 9 ∷ []) ∷ (7 ∷ 0 ∷ 1 ∷ 9 ∷ [])
+    ∷ (7 ∷ 0 ∷ 32 ∷ replicate 32 9) ∷ (7 ∷ 0 ∷ 33 ∷ replicate 33 9) ∷ [])
+    ≡ End ∷ NoEvent 0 ∷ NoEvent 0 ∷ Found 7 3 4 ∷ Found 7 3 35 ∷ NoEvent 0 ∷ []
 
--- both events, in their order, and the string that they give
+-- an event with its last bytes cut off is none; a byte more belongs to what comes next
+abbrev pub CutsRow : Type 0
+CutsRow =
+    map (λ n. entryAt (take n twoString) 0) (1 ∷ 2 ∷ 3 ∷ 4 ∷ 5 ∷ 6 ∷ [])
+    ≡ NoEvent 0 ∷ NoEvent 0 ∷ NoEvent 0 ∷ NoEvent 0 ∷ Found 7 3 5 ∷ Found 7 3 5 ∷ []
+
+-- sources 0, 255, 256 and 65,535
+abbrev pub SourcesRow : Type 0
+SourcesRow =
+    map (λ string. entryAt string 0)
+    ((0 ∷ 0 ∷ 1 ∷ 9 ∷ []) ∷ (255 ∷ 0 ∷ 1 ∷ 9 ∷ []) ∷ (0 ∷ 1 ∷ 1 ∷ 9 ∷ []) ∷ (255 ∷ 255 ∷ 1 ∷ 9 ∷ []) ∷ [])
+    ≡ Found 0 3 4 ∷ Found 255 3 4 ∷ Found 256 3 4 ∷ Found 65535 3 4 ∷ []
+
+-- the place after the last byte is the end, the next one 44
+abbrev pub EndsRow : Type 0
+EndsRow = map (entryAt []) (0 ∷ 1 ∷ 2 ∷ []) ≡ End ∷ NoEvent 1 ∷ NoEvent 2 ∷ []
+
+abbrev pub NumbersRow : Type 0
+NumbersRow = map number (Found 7 3 5 ∷ End ∷ NoEvent 9 ∷ []) ≡ 0 ∷ 0 ∷ 44 ∷ []
+
+-- both events, in their order; and nothing of the empty string
 abbrev pub HistoryRow : Type 0
 HistoryRow =
-    (history twoEvents
-    ≡ record {
-      events = record { source = 7; content = 161 ∷ 178 ∷ [] } ∷ record { source = 900; content = 5 ∷ [] } ∷ [];
-      number = 0;
-      place = 9;
-    })
-    × (stringOf (history twoEvents .events) ≡ twoEvents)
+    (history twoString ≡ record { events = twoEvents; number = 0; place = 9 }) × (history [] ≡ record { events = []; number = 0; place = 0 })
 
--- a string that breaks off is read up to the event that is not whole
+-- a string that breaks off, or goes on with what is no event, is read up to there
 abbrev pub BrokenRow : Type 0
 BrokenRow =
-    history (7 ∷ 0 ∷ 2 ∷ 161 ∷ 178 ∷ 132 ∷ 3 ∷ 1 ∷ [])
-    ≡ record { events = record { source = 7; content = 161 ∷ 178 ∷ [] } ∷ []; number = 44; place = 5 }
+    (history (take 8 twoString) ≡ record { events = take 1 twoEvents; number = 44; place = 5 })
+    × (history (twoString ++ (1 ∷ [])) ≡ record { events = twoEvents; number = 44; place = 9 })
+    × (history (1 ∷ []) ≡ record { events = []; number = 44; place = 0 })
+
+-- ---- runs
+
+-- an event of pool 3 is booked for reseed 8 as long as 7 reseeds were made, then for 16; of another pool it is nothing
+abbrev pub seven : Event
+seven = record { source = 7; content = 9 ∷ [] }
+
+abbrev pub BookingsRow : Type 0
+BookingsRow =
+    (map (λ r. bookedEvent (λ k. eqb k 8) 3 r (event 7 3 (9 ∷ []))) (0 ∷ 7 ∷ 8 ∷ 15 ∷ [])
+    ≡ (seven ∷ []) ∷ (seven ∷ []) ∷ [] ∷ [] ∷ [])
+    × (map (λ r. bookedEvent (λ k. eqb k 16) 3 r (event 7 3 (9 ∷ []))) (0 ∷ 7 ∷ 8 ∷ 15 ∷ [])
+    ≡ [] ∷ [] ∷ (seven ∷ []) ∷ (seven ∷ []) ∷ [])
+    × (bookedEvent (λ k. true) 2 0 (event 7 3 (9 ∷ [])) ≡ [])
+
+-- no other call is an event
+abbrev pub OthersRow : Type 0
+OthersRow =
+    map (bookedEvent (λ k. true) 0 0) (request 0 [] ∷ update 0 [] ∷ write 0 [] ∷ draw 0 1 1 ∷ shuffle 0 [] ∷ [])
+    ≡ [] ∷ [] ∷ [] ∷ [] ∷ [] ∷ []
+
+-- the uses of one reseed, in their order
+abbrev pub useAt : ℕ → ℕ → PoolUse
+useAt n i = record { reseedNumber = n; pool = i; pieces = [] }
+
+abbrev pub UsesRow : Type 0
+UsesRow = usesOf 2 (useAt 1 0 ∷ useAt 2 0 ∷ useAt 2 1 ∷ useAt 3 0 ∷ []) ≡ useAt 2 0 ∷ useAt 2 1 ∷ []
+
+-- reseed 4 uses the pools 0, 1 and 2: the first held both events, the second nothing, the third one of them
+abbrev pub WorkedRow : Type 0
+WorkedRow =
+    (workedOut 4 (twoString ∷ [] ∷ take 5 twoString ∷ [])
+    ≡ record { pool = 0; events = twoEvents } ∷ record { pool = 1; events = [] } ∷ record { pool = 2; events = take 1 twoEvents } ∷ [])
+    × (workedOut 3 (twoString ∷ []) ≡ record { pool = 0; events = twoEvents } ∷ []) × (workedOut 4 [] ≡ [])
 
 pub record Examples : Type 0 where
+  pub strings : StringsRow
   pub places : PlacesRow
+  pub content : DataRow
+  pub inside : InsideRow
   pub sizes : SizesRow
+  pub cuts : CutsRow
+  pub sources : SourcesRow
+  pub ends : EndsRow
+  pub numbers : NumbersRow
   pub whole : HistoryRow
   pub broken : BrokenRow
+  pub bookings : BookingsRow
+  pub others : OthersRow
+  pub uses : UsesRow
+  pub worked : WorkedRow

@@ -113,19 +113,22 @@ update-room m c due seed e = not-spent c due 7 (update-passed m c due seed e .1)
 pub record EventPassed (source pool n : ℕ) : Type 0 where
   pub known : source ≤ maxSource
   pub place : pool < poolCount
+  pub some : 0 < n
   pub short : n ≤ maxData
 
-input-passed : (source pool n : ℕ) → eventInput source pool n ≡ 0 → EventPassed source pool n
+pub input-passed : (source pool n : ℕ) → eventInput source pool n ≡ 0 → EventPassed source pool n
 unfolding eventInput poolCount
 input-passed source pool n e =
     let long : Bool = eqb n 0 || ltb maxData n in
     let p = passed (ltb maxSource source) 11 (refuse (ltb 31 pool) 12 (refuse long 13 0)) (omega arith) e in
     let q = passed (ltb 31 pool) 12 (refuse long 13 0) (omega arith) (p .1) in
     let l = passed long 13 0 (omega arith) (q .1) in
+    let sized = neither (eqb n 0) (ltb maxData n) (l .0) in
     record {
       known = ltb-false maxSource source (p .0);
       place = omega (arith, ltb-false 31 pool (q .0));
-      short = ltb-false maxData n (neither (eqb n 0) (ltb maxData n) (l .0) .1);
+      some = pos-of-ne-zero (eqb-false n 0 (sized .0));
+      short = ltb-false maxData n (sized .1);
     }
 
 pub event-passed : (m : Bool) (size source pool n : ℕ) → eventNumber m size source pool n ≡ 0 → EventPassed source pool n

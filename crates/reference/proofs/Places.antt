@@ -121,6 +121,15 @@ module _ (before : List Entry) (c : Entry) (later : List Entry) where
       (λ e m q. omega (arith, after-below before e m)) c (λ k source pool content q. absurd (h k source pool content q)))
       (λ e l q. omega arith))
 
+-- such a call leaves the events as they were
+pub none-added :
+    (before : List Entry) (c : Entry) → (referenceEntryNumber (referenceAfter before) c ≡ 0 → NoEvent c) →
+    referenceAfter (before ++ (c ∷ [])) .events ≡ referenceAfter before .events
+none-added before c h =
+    rw (after-cut before c [])
+    (unfold left stateFrom in step-keeps (λ (es : List Accepted). es ≡ referenceAfter before .events) (length before) (referenceAfter before) refl c
+    (λ k source pool content q. absurd (h k source pool content q)))
+
 -- ---- an accepted event
 
 module _ (before : List Entry) (q : Quotas) (source pool : ℕ) (content : List ℕ) (later : List Entry)
@@ -135,6 +144,11 @@ module _ (before : List Entry) (q : Quotas) (source pool : ℕ) (content : List 
       ap (λ (o : Effect Reference). o .next .events) (outcome-done _ _ _ _ accepted)
       ∙ events-noted (length before) (referenceAfter before) pool (eventBytes source content)
 
+  -- the one event more
+  pub event-added : referenceAfter (before ++ (taking q (event source pool content) ∷ [])) .events ≡ referenceAfter before .events ++ (noted ∷ [])
+  unfolding left
+  event-added = rw (after-cut before (taking q (event source pool content)) []) (unfold stateFrom in left-events)
+
   -- it is listed
   pub event-listed : List·Memᴰ noted (referenceAfter (before ++ (taking q (event source pool content) ∷ later)) .events)
   event-listed =
@@ -142,7 +156,9 @@ module _ (before : List Entry) (q : Quotas) (source pool : ℕ) (content : List 
       (run-member noted later (suc (length before)) _ (rw left-events (Memᴰ·append-right (referenceAfter before .events) (List·Memᴰ·head refl))))
 
   -- and alone at its place
-  pub event-alone : Every (λ e. e .place ≡ length before → e ≡ noted) (referenceAfter (before ++ (taking q (event source pool content) ∷ later)) .events)
+  pub event-alone :
+      Every (λ e. e .place ≡ length before → e ≡ noted)
+      (referenceAfter (before ++ (taking q (event source pool content) ∷ later)) .events)
   event-alone =
       rw (after-cut before (taking q (event source pool content)) later)
       (run-every (λ e. e .place ≡ length before → e ≡ noted) later (suc (length before)) _

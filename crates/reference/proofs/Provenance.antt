@@ -32,7 +32,7 @@ use Rattle.reference.proofs.Keys.{takes}
 use Rattle.reference.proofs.Tracing.{Tied, tied-string, tied-digests, run-tied, run-state}
 
 -- the pool reseeds of a run are the model's R
-same-reseeds : (calls : List Entry) → reseedsAfter calls ≡ referenceAfter calls .reseeds
+pub same-reseeds : (calls : List Entry) → reseedsAfter calls ≡ referenceAfter calls .reseeds
 same-reseeds calls = reseeds-after calls (agrees calls .outcomes)
 
 -- ---- erasing the tags gives the station's own
@@ -103,7 +103,7 @@ reseed-key calls c =
     (λ (d : List ℕ). encode (reseed (decode (atReseed (stateAfter calls) c .generator)) d))
     (same-digests (stateAfter calls) c ∙ faithful calls .hashes)
 
-same-number : (before : List Entry) (c : Entry) → entryNumber (stateAfter before) c ≡ referenceEntryNumber (referenceAfter before) c
+pub same-number : (before : List Entry) (c : Entry) → entryNumber (stateAfter before) c ≡ referenceEntryNumber (referenceAfter before) c
 same-number before c =
     ap (λ (s : Fortuna). entryNumber s c) (agrees before .state) ∙ entry-agrees (referenceAfter before) (sound-after before) c
 

@@ -35,7 +35,7 @@ use Rattle.reference.proofs.Agreement.{entry-agrees, step-agrees, step-
 
 -- ---- pieces
 
-erased-map : (es : List Accepted) → erased (map pieceOf es) ≡ contents es
+pub erased-map : (es : List Accepted) → erased (map pieceOf es) ≡ contents es
 unfolding erased contents
 erased-map es = joined-map (λ (p : Piece). p .bytes) pieceOf es ∙ (unfold pieceOf in refl)
 

@@ -31,7 +31,10 @@ add-t8 c = omega (arith, size-room _ _ _ (c .before .before .size-at .ensures) (
 
 returns-3 : tie.Need-returns-3
 returns-3 c =
-    entry-found _ _ _ _ (c .before .before .before .if1 .left) (c .before .before .size-at .ensures) (c .before .if2 .left) (c .source-at .ensures)
+    let whole = c .before in
+    let sized = whole .before in
+    let inside = sized .before in
+    entry-found _ _ _ _ (inside .if1 .left) (sized .size-at .ensures) (whole .if2 .left) (c .source-at .ensures)
 
 pub entry-at-spec : {M : Type 1} → statement M
 entry-at-spec =

@@ -37,7 +37,12 @@ returns-4 c = size-cut _ _ _ (c .before .before .wide .ensures) (c .if4 .taken)
 
 returns-5 : tie.Need-returns-5
 unfolding lengthAt
-returns-5 c = size-whole _ _ _ (c .before .before .wide .ensures) (c .before .before .before .before .before .if1 .left) (c .before .before .before .before .if2 .left) (c .before .if3 .left) (c .if4 .left)
+returns-5 c =
+    let small = c .before in
+    let read = small .before in
+    let inside = read .before .before in
+    let long = inside .before in
+    size-whole _ _ _ (read .wide .ensures) (long .if1 .left) (inside .if2 .left) (small .if3 .left) (c .if4 .left)
 
 pub size-at-spec : {M : Type 1} → statement M
 size-at-spec =

@@ -23,12 +23,17 @@ wide32-requires-2 : tie.Need-wide32-requires-2
 wide32-requires-2 c κs = search needs
 
 mul-result : tie.Need-mul-result
-mul-result c = omega (arith, c .before .shared-slice-known3 .given (c .before .before .before .before .before .args .place + 1))
+mul-result c =
+    let read = c .before in
+    let start = read .before .before .before .before in
+    omega (arith, read .shared-slice-known3 .given (start .args .place + 1))
 
 add-result : tie.Need-add-result
 add-result c =
-    let known = c .before .shared-slice-known3 .given in
-    let place = c .before .before .before .before .before .args .place in
+    let read = c .before in
+    let start = read .before .before .before .before in
+    let known = read .shared-slice-known3 .given in
+    let place = start .args .place in
     omega (arith, known place, known (place + 1))
 
 returns : tie.Need-returns

@@ -1,0 +1,118 @@
+-- The strings of a reseed are those that its call hashes into the key, whatever comes later.
+-- Assumes nothing.
+use mathlib.Core.Path.{_≡_, refl, sym, ap, ap₂, subst, _∙_}
+use mathlib.Core.Bool.{Bool, true, cond}
+use mathlib.Core.List.{List, [], _∷_, _++_, map, append-assoc, append-nil}
+use Prim.Native.Nat.{ℕ, _+_, _≤_, _<_}
+use native.Mathlib.Omega.{arith}
+use lib.Dec.{ltb}
+use borrow.Author.Tests.{lt-ltb, eq-eqb, ne-eqb}
+use Rattle.laws.specs.Lists.{joined}
+use Rattle.laws.proofs.Cases.{split}
+use Rattle.laws.proofs.Lists.{joined-map}
+use Rattle.hash.specs.ShaD.{D}
+use Rattle.generator.specs.Steps.{decode, encode, reseed}
+use Rattle.pools.specs.declared.Fortuna.{Fortuna}
+use Rattle.pools.specs.Effects.{poolReseed}
+use Rattle.pools.specs.Calls.{readingOf, Outcome}
+use Rattle.quotas.specs.Entries.{Entry, entryStep}
+use Rattle.reference.specs.Runs.{run, stateAfter}
+use Rattle.reference.specs.Timer.{poolReseeds, reseedsAfter}
+use Rattle.reference.specs.Reference.{referenceAfter}
+use Rattle.reference.specs.Provenance.{PoolUse, erased, Traced, useOf, nextUses, traced, atReseed, reseededBy, EntersKey}
+use Rattle.reference.proofs.Correct.{run-correct}
+use Rattle.history.specs.Runs.{usesOf, stringsAt}
+use Rattle.history.proofs.Runs.{uses-append, uses-none, uses-model}
+
+-- ---- the next reseed's uses
+
+module _ (t : Traced) where
+  next-same : (l : List ℕ) → usesOf (t .reseeds + 1) (joined (useOf t) l) ≡ joined (useOf t) l
+  unfolding usesOf joined useOf
+  next-same [] = refl
+  next-same (i ∷ l) = rw (eq-eqb (t .reseeds + 1) (t .reseeds + 1) refl, next-same l)
+
+  next-other : (n : ℕ) (l : List ℕ) → (t .reseeds + 1 ≡ n → ⊥) → usesOf n (joined (useOf t) l) ≡ []
+  unfolding usesOf joined useOf
+  next-other n [] h = refl
+  next-other n (i ∷ l) h = rw (ne-eqb (t .reseeds + 1) n h) (next-other n l h)
+
+-- ---- one call more
+
+pub reseeds-append :
+    (os : List (Outcome Fortuna)) (o : Outcome Fortuna) → poolReseeds (os ++ (o ∷ [])) ≡ poolReseeds os + cond (ltb 0 (o .effect .emptied)) 1 0
+unfolding poolReseeds
+reseeds-append [] o = omega arith
+reseeds-append (p ∷ os) o = omega (arith, reseeds-append os o)
+
+module _ (calls : List Entry) (c : Entry) where
+  abbrev makes : Bool
+  makes = ltb 0 (entryStep (stateAfter calls) c .effect .emptied)
+
+  enters : EntersKey calls c
+  enters = run-correct (calls ++ (c ∷ [])) .provenance .key calls c [] refl
+
+  reseeds-more : reseedsAfter (calls ++ (c ∷ [])) ≡ reseedsAfter calls + cond makes 1 0
+  unfolding reseedsAfter
+  reseeds-more = ap poolReseeds (run-correct calls .steps .more calls c) ∙ reseeds-append (run calls) (entryStep (stateAfter calls) c)
+
+  uses-more :
+      (n : ℕ) →
+      usesOf n (traced (calls ++ (c ∷ [])) .uses) ≡ usesOf n (traced calls .uses) ++ usesOf n (cond makes (nextUses (traced calls)) [])
+  uses-more n = ap (usesOf n) (enters .grows) ∙ uses-append n (traced calls .uses) (cond makes (nextUses (traced calls)) [])
+
+  -- it uses nothing at a reseed that was made before
+  none-new : (n : ℕ) → n ≤ reseedsAfter calls → usesOf n (cond makes (nextUses (traced calls)) []) ≡ []
+  none-new n h =
+      split (λ (l : List PoolUse). usesOf n l ≡ []) makes
+      (λ _. unfold nextUses in next-other (traced calls) n _ (λ q. omega (arith, run-correct calls .provenance .faithful .reseeds)))
+      (λ _. unfold usesOf in refl)
+
+-- ---- later calls
+
+later-same :
+    (later front : List Entry) (n : ℕ) → n ≤ reseedsAfter front → usesOf n (traced (front ++ later) .uses) ≡ usesOf n (traced front .uses)
+later-same [] front n h = ap (λ (l : List Entry). usesOf n (traced l .uses)) (append-nil front)
+later-same (d ∷ later) front n h =
+    ap (λ (l : List Entry). usesOf n (traced l .uses)) (sym (append-assoc front (d ∷ []) later))
+    ∙ later-same later (front ++ (d ∷ [])) n (omega (arith, reseeds-more front d))
+    ∙ uses-more front d n
+    ∙ ap (λ (l : List PoolUse). usesOf n (traced front .uses) ++ l) (none-new front d n h)
+    ∙ append-nil (usesOf n (traced front .uses))
+
+-- ---- the call that makes a reseed
+
+module _ (before : List Entry) (c : Entry) (later : List Entry) (made : 0 < entryStep (stateAfter before) c .effect .emptied) where
+  abbrev number : ℕ
+  number = reseedsAfter before + 1
+
+  makes-one : makes before c ≡ true
+  makes-one = lt-ltb 0 _ made
+
+  reached : number ≤ reseedsAfter (before ++ (c ∷ []))
+  reached = rw (reseeds-more before c, makes-one) (omega arith)
+
+  uses-are : usesOf number (traced (before ++ (c ∷ later)) .uses) ≡ nextUses (traced before)
+  uses-are =
+      ap (λ (l : List Entry). usesOf number (traced l .uses)) (sym (append-assoc before (c ∷ []) later))
+      ∙ later-same later (before ++ (c ∷ [])) number reached
+      ∙ uses-more before c number
+      ∙ ap₂ (λ (x y : List PoolUse). x ++ y)
+      (uses-model before number ∙ uses-none (referenceAfter before .events) (reseedsAfter before) number (λ k l q. omega arith))
+      (ap (λ (b : Bool). usesOf number (cond b (nextUses (traced before)) [])) makes-one ∙ all-next)
+    where
+      all-next : usesOf number (nextUses (traced before)) ≡ nextUses (traced before)
+      all-next =
+          subst (λ (n : ℕ). usesOf (n + 1) (nextUses (traced before)) ≡ nextUses (traced before)) (run-correct before .provenance .faithful .reseeds)
+          (unfold nextUses in next-same (traced before) _)
+
+  pub strings-hashed :
+      let s = atReseed (stateAfter before) (c .call) in
+      poolReseed s (readingOf (c .call)) .generator
+      ≡ encode (reseed (decode (s .generator)) (joined D (stringsAt (before ++ (c ∷ later)) number)))
+  unfolding stringsAt reseededBy
+  strings-hashed =
+      enters before c .key
+      ∙ ap (λ (d : List ℕ). encode (reseed (decode (atReseed (stateAfter before) (c .call) .generator)) d))
+      (sym (ap (λ (us : List PoolUse). joined D (map (λ u. erased (u .pieces)) us)) uses-are
+      ∙ joined-map D (λ (u : PoolUse). erased (u .pieces)) (nextUses (traced before))))
