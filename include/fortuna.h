@@ -1,6 +1,6 @@
 /* Fortuna with its pools, timer and seeds, the generator alone, SHA-256, D and AES-256, health tests that tell a stuck
-   noise source, NIST's CTR_DRBG, and a converter of call logs between frames 01 and 05: the static library fortuna_c,
-   for x86-64. It calls memcpy and memset, and nothing else.
+   noise source, NIST's CTR_DRBG, a converter of call logs between frames 01 and 05, and a reader of the events behind a
+   pool: the static library fortuna_c, for x86-64. It calls memcpy and memset, and nothing else.
 
    STATIONS START FRESH AFTER THE UPDATE TO THE 2010 EDITION'S D: call fortuna_new, then fortuna_update with the stored
    seed. Take up no fortuna_state that was kept by a version whose header has fortuna_double_sha256, the name of D then.
@@ -50,6 +50,7 @@
        fortuna_metered_shuffle         64,512
        fortuna_log                    270,336
        fortuna_convert                    512
+       fortuna_entry_at                   256
        fortuna_health_new                 256
        fortuna_health_test                256
        fortuna_ctr_drbg_new               256
@@ -147,6 +148,8 @@ enum {
     FORTUNA_SEEDING_NEEDED = 42,
     /* a conversion to frames 01: an event of a source above 255, which frame 01 can't carry */
     FORTUNA_LARGE_SOURCE = 43,
+    /* a pool's byte string: no whole event starts at the place, or it is past the end */
+    FORTUNA_NO_EVENT = 44,
     /* a conversion: no room left for the converted line and its end */
     FORTUNA_NO_ROOM = 46
 };
@@ -442,6 +445,46 @@ typedef struct {
    frame 01. The two may not overlap: a log is not converted in place.
    FORTUNA_DONE, FORTUNA_NO_FRAME, FORTUNA_LARGE_SOURCE, which comes only where wide is not set, or FORTUNA_NO_ROOM. */
 fortuna_conversion fortuna_convert(const uint8_t *log, size_t length, bool wide, uint8_t *out, size_t room);
+
+/* ---- The events behind a pool, for whoever questions a key
+
+   A pool's byte string is what its events have brought, in their order. Each brings its source in 2 bytes, least
+   significant first, a byte with the length of its data, 1 to 32, and the data. fortuna_entry_at reads the event at a
+   place of such a string, and tells the next place. A whole string is read by this loop:
+
+       fortuna_entry e = fortuna_entry_at(string, length, 0);
+       for (; e.found; e = fortuna_entry_at(string, length, e.next))
+           use(e.source, string + e.from, e.next - e.from);
+       if (e.number != FORTUNA_DONE)
+           no_string_of_events(e.place);
+
+   - A string comes from one list of events only, order included.
+   - The string of a list of events is read as that list, to its end. Read from 0, exactly the strings that no list
+     gives come to FORTUNA_NO_EVENT, where the events have sources up to 65,535 and 1 to 32 bytes of data. The empty
+     string is that of no event. Both are proved.
+   - A pool takes no more than 2^61 - 65 bytes (FORTUNA_POOL_FULL). The reader does not look at that.
+   - Start at 0, and go on from next. Any place may be asked for, but between two starts an event's bytes may look like
+     another event.
+   - Only the string is read: whether a station took these events, the reader can't tell. No state holds a string, but
+     running hashes alone. bin/logbook --strings works strings out from a log of calls.
+   - Reseed N uses pool i where 2^i divides N. So the strings used at each reseed tell every event that has entered the
+     key, with its pool and its order there. The seed of an update enters the key too and is no event. */
+
+/* What stands at a place of a string. Where found is set it is an event: its source; where its data start, which reach
+   to the next place; and the next place. Where found is not set, it is the end with FORTUNA_DONE and no event with
+   FORTUNA_NO_EVENT: the source is 0 then, and from and next are the place. place is always the one asked for. */
+typedef struct {
+    uint32_t number;
+    uint32_t source;
+    bool found;
+    size_t place;
+    size_t from;
+    size_t next;
+} fortuna_entry;
+
+/* The event at a place, from 0, of the length bytes at string. The place `length` is the end.
+   FORTUNA_DONE or FORTUNA_NO_EVENT. */
+fortuna_entry fortuna_entry_at(const uint8_t *string, size_t length, size_t place);
 
 /* ---- Health tests of a noise source (NIST SP 800-90B, 4.4.1 and 4.4.2)
 
