@@ -2,7 +2,8 @@
    Prints a line for each function: its name, the most bytes of stack that a case of it needed, and for calls on a
    state the most copies of its key that stood there when the call had ended: of the key before it, and of the key after
    it; for CTR_DRBG then the same of V. Stops where such a call is refused that should be accepted, or the other way
-   round: a refused one needs less. Stops too where a conversion does not answer as it should. */
+   round: a refused one needs less. Stops too where a conversion or the reader of a pool's string does not answer as it
+   should. */
 #define _GNU_SOURCE
 #include "fortuna.h"
 
@@ -284,6 +285,22 @@ static void narrow_large(void) { convert(false, sizeof out, FORTUNA_LARGE_SOURCE
 static void widen_one(void) { convert(true, sizeof "05000703", FORTUNA_NO_ROOM, 2); }
 static void narrow_one(void) { convert(false, sizeof "010703", FORTUNA_NO_ROOM, 2); }
 
+/* A pool's string: an event with the fewest bytes of data, and at SECOND one with the most. */
+enum { SECOND = 4, END = 39 };
+static const uint8_t string[END] = {[2] = 1, [SECOND + 2] = 32};
+
+static void look(size_t place, size_t next, uint32_t number)
+{
+    const fortuna_entry e = fortuna_entry_at(string, END, place);
+    require(e.number == number && e.next == next, "fortuna_entry_at", "does not answer as it should");
+}
+
+static void look_at_first(void) { look(0, SECOND, FORTUNA_DONE); }
+static void look_at_second(void) { look(SECOND, END, FORTUNA_DONE); }
+static void look_at_end(void) { look(END, END, FORTUNA_DONE); }
+static void look_between(void) { look(2, 2, FORTUNA_NO_EVENT); }
+static void look_past_end(void) { look(SIZE_MAX, SIZE_MAX, FORTUNA_NO_EVENT); }
+
 /* What a call on a state comes to. The others are not looked at. */
 enum outcome { APART, ACCEPTED, REFUSED };
 
@@ -349,6 +366,11 @@ static const struct {
     {"fortuna_convert", write_no_frame, widen_no_frame, APART},
     {"fortuna_convert", write_no_frame, narrow_no_frame, APART},
     {"fortuna_convert", write_large_source, narrow_large, APART},
+    {"fortuna_entry_at", nothing, look_at_first, APART},
+    {"fortuna_entry_at", nothing, look_at_second, APART},
+    {"fortuna_entry_at", nothing, look_at_end, APART},
+    {"fortuna_entry_at", nothing, look_between, APART},
+    {"fortuna_entry_at", nothing, look_past_end, APART},
     {"fortuna_health_new", seeded, health_new, APART},
     {"fortuna_health_test", varied, health_test, APART},
     {"fortuna_health_test", varied, health_cutoff, APART},
