@@ -3,8 +3,9 @@
    stuck: the health tests tell before its stuck readings become an event. Another digitiser is fresh from the works:
    its page of flash memory was never written, so it waits for noise before it has a seed. At a later power-up a
    tiltmeter floods: a list of quotas turns back what is too much, and the seismometer goes on. At the last one the
-   digitiser is a permanent station, whose network wants keys from CTR_DRBG. A log of calls is run, and logs are
-   converted from frame 01 to 05 and back. Noise, clock and flash pages are stand-ins, so each run prints the same.
+   digitiser is a permanent station, whose network wants keys from CTR_DRBG. A log of calls is run, logs are converted
+   from frame 01 to 05 and back, and an analyst lists the events behind a pool. Noise, clock and flash pages are
+   stand-ins, so each run prints the same.
 
    One call at a time on a state: here the task that runs main owns the state and makes every call. Interrupts only put
    noise into a ring buffer, and the owner takes it from there between its other calls. */
@@ -69,6 +70,7 @@ static const struct {
     {FORTUNA_INPUT_TOO_LONG, "more than 48 bytes of another input"},
     {FORTUNA_SEEDING_NEEDED, "never seeded, or 2^48 requests since"},
     {FORTUNA_LARGE_SOURCE, "a source above 255, which frame 01 can't carry"},
+    {FORTUNA_NO_EVENT, "no whole event starts there, or it is past the end"},
     {FORTUNA_NO_ROOM, "no room for the converted line"},
 };
 
@@ -401,6 +403,29 @@ static void convert_hub(void)
     show_log("the lines before it", narrow, c.written);
 }
 
+/* A pool's byte string, event by event, up to its end or to the place where no event starts. */
+static void list_events(const uint8_t *string, size_t length)
+{
+    printf("a pool's string: ");
+    print_bytes(string, length);
+    fortuna_entry e = fortuna_entry_at(string, length, 0);
+    for (; e.found; e = fortuna_entry_at(string, length, e.next)) {
+        printf("source %u, data ", e.source);
+        print_bytes(string + e.from, e.next - e.from);
+    }
+    if (e.number != FORTUNA_DONE)
+        printf("place %zu: refused, %u (%s)\n", e.place, e.number, reason(e.number));
+}
+
+/* For an analyst, who has a pool's string from bin/logbook --strings: an event of source 7 and one of source 900. Then
+   the string's last byte is lost, so that no list of events gives it. */
+static void question_key(void)
+{
+    static const uint8_t string[] = {0x07, 0x00, 2, 0xa1, 0xb2, 0x84, 0x03, 1, 0x05};
+    list_events(string, sizeof string);
+    list_events(string, sizeof string - 1);
+}
+
 /* Another digitiser, fresh from the works. Its second power-up finds the seed that the first one left in the page. */
 static void start_twice(void)
 {
@@ -605,6 +630,7 @@ int main(void)
     run_log();
     convert_archive();
     convert_hub();
+    question_key();
     start_twice();
     flood(flash);
     run_permanent(flash);

@@ -2,7 +2,8 @@
 """What the programs in examples/ must print, worked out by station.py, for the ciphers by aes256.py, for the log by
 logbook.py, for converted logs by convert.py, for the permanent station's keys by ctr_drbg.py, and for the reading that
 fails a health test by health.py, from all readings of the source at once. Which of the tiltmeter's events are taken
-follows from division: its allowance by what an event takes of it.
+follows from division: its allowance by what an event takes of it. The events behind a pool's string are those that it
+is made of here: no string is read.
 
     tests/independent/examples.py                  prints it
     tests/independent/examples.py --check FILE     exits 1 where FILE differs"""
@@ -35,6 +36,7 @@ FLOOD = 10  # events of the tiltmeter where others send one
 LOG = b"010700A1B2\n050384003C\n02000000640010\nFF\n"
 ARCHIVE = b"010700A1B2\n02000000640010\n01FF1F3C\n"
 HUB = b"05000700A1B2\n02000000640010\n050384003C\n04000000C8\n"
+STRING_EVENTS = ((7, bytes.fromhex("A1B2")), (900, bytes.fromhex("05")))  # source and data
 NAME, LINK = b"permanent station 12", b"link to the observatory"
 
 
@@ -105,6 +107,19 @@ def conversion_lines():
     yield f"a hub's log by frame 01, line {line}: refused, {number} ({why})"
     yield "the lines before it:"
     yield from before.decode().splitlines()
+
+
+def string_lines():
+    """Of a pool's string, made of its events, and of the same without its last byte, with which its last event ends."""
+    pieces = [source.to_bytes(2, "little") + bytes([len(data)]) + data for source, data in STRING_EVENTS]
+    told = [f"source {source}, data {data.hex()}" for source, data in STRING_EVENTS]
+    string = b"".join(pieces)
+    yield f"a pool's string: {string.hex()}"
+    yield from told
+    yield f"a pool's string: {string[:-1].hex()}"
+    yield from told[:-1]
+    place = sum(map(len, pieces[:-1]))
+    yield f"place {place}: refused, 44 (no whole event starts there, or it is past the end)"
 
 
 def works_lines():
@@ -213,6 +228,7 @@ def lines():
     yield "a log's answers:"
     yield from (line.decode().rstrip() for line in logbook.answers(io.BytesIO(LOG)))
     yield from conversion_lines()
+    yield from string_lines()
     yield from works_lines()
     page = yield from flood_lines(written.buffer)
     yield from permanent_lines(page)

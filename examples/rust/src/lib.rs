@@ -1,6 +1,8 @@
-//! A safe wrapper of the proved Fortuna, of the health tests of its noise sources, of NIST's CTR_DRBG, and of the
-//! converter of call logs. include/fortuna.h says what each call does, and how much stack it needs.
+//! A safe wrapper of the proved Fortuna, of the health tests of its noise sources, of NIST's CTR_DRBG, of the converter
+//! of call logs, and of the reader of the events behind a pool. include/fortuna.h says what each call does, and how
+//! much stack it needs.
 use std::fmt;
+use std::iter::FusedIterator;
 use std::mem::{offset_of, size_of};
 
 /// Why a call was refused, with the number of the header. After a refusal state, buffers and quotas are as before, save
@@ -32,6 +34,7 @@ pub enum Refusal {
     InputTooLong = 41,
     SeedingNeeded = 42,
     LargeSource = 43,
+    NoEvent = 44,
     NoRoom = 46,
 }
 
@@ -62,6 +65,7 @@ impl Refusal {
             41 => Refusal::InputTooLong,
             42 => Refusal::SeedingNeeded,
             43 => Refusal::LargeSource,
+            44 => Refusal::NoEvent,
             46 => Refusal::NoRoom,
             _ => unreachable!("the header has no number {number} for these calls"),
         }
@@ -97,6 +101,7 @@ impl Refusal {
             Refusal::InputTooLong => "more than 48 bytes of another input",
             Refusal::SeedingNeeded => "never seeded, or 2^48 requests since",
             Refusal::LargeSource => "a source above 255, which frame 01 can't carry",
+            Refusal::NoEvent => "no whole event starts there, or it is past the end",
             Refusal::NoRoom => "no room for the converted line",
         }
     }
@@ -198,6 +203,27 @@ impl From<NotConverted> for Refusal {
     }
 }
 
+/// Why a pool's string has no event at a place: the reason, and the place.
+#[derive(Clone, Copy, Debug, PartialEq, Eq)]
+pub struct NotRead {
+    pub refusal: Refusal,
+    pub place: usize,
+}
+
+impl fmt::Display for NotRead {
+    fn fmt(&self, f: &mut fmt::Formatter) -> fmt::Result {
+        write!(f, "place {}: {}", self.place, self.refusal)
+    }
+}
+
+impl std::error::Error for NotRead {}
+
+impl From<NotRead> for Refusal {
+    fn from(not_read: NotRead) -> Refusal {
+        not_read.refusal
+    }
+}
+
 #[repr(C)]
 struct Generator {
     key: [u8; 32],
@@ -285,6 +311,16 @@ struct Conversion {
     written: usize,
 }
 
+#[repr(C)]
+struct EntryAnswer {
+    number: u32,
+    source: u32,
+    found: bool,
+    place: usize,
+    from: usize,
+    next: usize,
+}
+
 // The sizes that the header's structs have in C, and the places of the fields that stand last or behind smaller ones.
 const _: () = assert!(size_of::<Pool>() == 104 && size_of::<State>() == 3392);
 const _: () = assert!(size_of::<Answer>() == 8 && size_of::<Draw>() == 16);
@@ -298,6 +334,8 @@ const _: () = assert!(size_of::<CtrDrbgState>() == 56 && offset_of!(CtrDrbgState
 const _: () = assert!(offset_of!(CtrDrbgState, reseed_counter) == 48);
 const _: () = assert!(size_of::<Conversion>() == 24 && offset_of!(Conversion, line) == 8);
 const _: () = assert!(offset_of!(Conversion, written) == 16);
+const _: () = assert!(size_of::<EntryAnswer>() == 40 && offset_of!(EntryAnswer, found) == 8);
+const _: () = assert!(offset_of!(EntryAnswer, place) == 16 && offset_of!(EntryAnswer, next) == 32);
 
 extern "C" {
     fn fortuna_sha_d256(data: *const u8, length: usize, digest: *mut [u8; 32]) -> u32;
@@ -375,6 +413,7 @@ extern "C" {
         out: *mut u8,
         room: usize,
     ) -> Conversion;
+    fn fortuna_entry_at(string: *const u8, length: usize, place: usize) -> EntryAnswer;
     fn fortuna_health_new() -> HealthState;
     fn fortuna_health_test(
         state: *mut HealthState,
@@ -775,3 +814,58 @@ pub fn convert(log: &[u8], wanted: EventFrame, out: &mut [u8]) -> Result<usize, 
         }),
     }
 }
+
+/// An event of a pool's byte string: its source, its data, and the place of the next event.
+#[derive(Clone, Copy, Debug, PartialEq, Eq)]
+pub struct Entry<'a> {
+    pub source: u16,
+    pub data: &'a [u8],
+    pub next: usize,
+}
+
+/// The event at a place, from 0, of a pool's byte string; `None` at the string's end. `NoEvent`, with the place: no
+/// whole event starts there, or it is past the end. Start at 0 and go on from `next`, as `events` does: between two
+/// starts an event's bytes may look like another event.
+pub fn entry_at(string: &[u8], place: usize) -> Result<Option<Entry<'_>>, NotRead> {
+    let answer = unsafe { fortuna_entry_at(string.as_ptr(), string.len(), place) };
+    match answer.number {
+        0 if answer.found => Ok(Some(Entry {
+            source: answer.source as u16, // two bytes of the string
+            data: &string[answer.from..answer.next],
+            next: answer.next,
+        })),
+        0 => Ok(None),
+        number => Err(NotRead {
+            refusal: Refusal::from_number(number),
+            place: answer.place,
+        }),
+    }
+}
+
+/// The events of a pool's byte string, in their order, read from 0. A string comes from one list of events only. One
+/// that no list gives ends with a refusal, after the events before its place; all others end without one.
+pub fn events(string: &[u8]) -> Events<'_> {
+    Events {
+        string,
+        place: Some(0),
+    }
+}
+
+/// What `events` gives.
+#[derive(Clone, Debug)]
+pub struct Events<'a> {
+    string: &'a [u8],
+    place: Option<usize>, // none after the end or a refusal
+}
+
+impl<'a> Iterator for Events<'a> {
+    type Item = Result<Entry<'a>, NotRead>;
+
+    fn next(&mut self) -> Option<Self::Item> {
+        let answer = entry_at(self.string, self.place?);
+        self.place = answer.ok().flatten().map(|entry| entry.next);
+        answer.transpose()
+    }
+}
+
+impl FusedIterator for Events<'_> {}

@@ -5,14 +5,14 @@
 //! never written, so it waits for noise before it has a seed. At a later power-up a tiltmeter
 //! floods: a list of quotas turns back what is too much, and the seismometer goes on. At the last
 //! one the digitiser is a permanent station, whose network wants keys from CTR_DRBG. A log of calls
-//! is run, and logs are converted from frame 01 to 05 and back. Noise, clock and flash pages are
-//! stand-ins, so that each run prints the same.
+//! is run, logs are converted from frame 01 to 05 and back, and an analyst lists the events behind a
+//! pool. Noise, clock and flash pages are stand-ins, so that each run prints the same.
 //!
 //! One call at a time on a state: `main` owns it, and each call borrows it alone. Noise from interrupts or other
 //! threads would come through a queue.
 use fortuna::{
-    convert, run_log, sha_d256, Aes256, Aes256Bytewise, CtrDrbg, Drawn, EventFrame, Fortuna,
-    Health, NotDrawn, NotPassed, Quota, Refusal,
+    convert, events, run_log, sha_d256, Aes256, Aes256Bytewise, CtrDrbg, Drawn, EventFrame,
+    Fortuna, Health, NotDrawn, NotPassed, Quota, Refusal,
 };
 
 /// A source may be any number up to 65,535.
@@ -300,6 +300,25 @@ fn convert_hub() {
     }
 }
 
+/// A pool's byte string, event by event, up to its end or to the place where no event starts.
+fn list_events(string: &[u8]) {
+    println!("a pool's string: {}", hexadecimal(string));
+    for event in events(string) {
+        match event {
+            Ok(entry) => println!("source {}, data {}", entry.source, hexadecimal(entry.data)),
+            Err(not_read) => println!("{not_read}"),
+        }
+    }
+}
+
+/// For an analyst, who has a pool's string from `bin/logbook --strings`: an event of source 7 and one of source 900.
+/// Then the string's last byte is lost, so that no list of events gives it.
+fn question_key() {
+    let string = [0x07, 0x00, 2, 0xa1, 0xb2, 0x84, 0x03, 1, 0x05];
+    list_events(&string);
+    list_events(&string[..string.len() - 1]);
+}
+
 /// Another digitiser, fresh from the works. Its second power-up finds the seed that the first one left in the page.
 fn start_twice() -> Result<(), Refusal> {
     let mut page = [0xff; 64];
@@ -504,6 +523,7 @@ fn main() -> Result<(), Refusal> {
     replay();
     convert_archive()?;
     convert_hub();
+    question_key();
     start_twice()?;
     flood(&mut flash)?;
     run_permanent(&mut flash)
