@@ -1,0 +1,12 @@
+#include "entry.h"
+#include "fortuna.h"
+
+size_t read_events(const uint8_t *string, size_t length, uint64_t *mixed) {
+    size_t count = 0;
+    fortuna_entry e = fortuna_entry_at(string, length, 0);
+    for (; e.found; e = fortuna_entry_at(string, length, e.next)) {
+        *mixed = mix(*mixed, e.source, string + e.from, e.next - e.from);
+        count++;
+    }
+    return e.number == FORTUNA_DONE ? count : 0;
+}
