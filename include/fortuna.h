@@ -458,10 +458,10 @@ fortuna_conversion fortuna_convert(const uint8_t *log, size_t length, bool wide,
        if (e.number != FORTUNA_DONE)
            no_string_of_events(e.place);
 
-   - A string comes from one list of events only, order included.
-   - The string of a list of events is read as that list, to its end. Read from 0, exactly the strings that no list
-     gives come to FORTUNA_NO_EVENT, where the events have sources up to 65,535 and 1 to 32 bytes of data. The empty
-     string is that of no event. Both are proved.
+   - It is proved that a string comes from one list of events only, order included.
+   - It is proved too, of events with sources up to 65,535 and 1 to 32 bytes of data, that the string of a list is read
+     as that list, to its end, and that, read from 0, exactly the strings that no list gives come to FORTUNA_NO_EVENT.
+     The empty string is that of no event.
    - A pool takes no more than 2^61 - 65 bytes (FORTUNA_POOL_FULL). The reader does not look at that.
    - Start at 0, and go on from next. Any place may be asked for, but between two starts an event's bytes may look like
      another event.
