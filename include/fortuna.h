@@ -467,8 +467,9 @@ fortuna_conversion fortuna_convert(const uint8_t *log, size_t length, bool wide,
      another event.
    - Only the string is read: whether a station took these events, the reader can't tell. No state holds a string, but
      running hashes alone. bin/logbook --strings works strings out from a log of calls.
-   - Reseed N uses pool i where 2^i divides N. So the strings used at each reseed tell every event that has entered the
-     key, with its pool and its order there. The seed of an update enters the key too and is no event. */
+   - Reseed N uses pool i where 2^i divides N. With that the strings used at each reseed tell every event that has
+     entered the key, with its pool and its order there: this is proved of every list of calls. The seed of an update
+     enters the key too and is no event. */
 
 /* What stands at a place of a string. Where found is set it is an event: its source; where its data start, which reach
    to the next place; and the next place. Where found is not set, it is the end with FORTUNA_DONE and no event with

@@ -11,17 +11,16 @@ use borrow.Author.Tests.{eqb-true, eqb-false}
 use Rattle.laws.specs.Lists.{joined}
 use Rattle.laws.proofs.Cases.{by-test, split}
 use Rattle.laws.proofs.Lists.{joined-append}
-use Rattle.pools.specs.Calls.{Call, event, request, update, write, draw, shuffle, inputNumber, stateFrom}
-use Rattle.pools.proofs.Acceptance.{input-passed}
-use Rattle.pools.proofs.Chains.{both-passed}
+use Rattle.pools.specs.Calls.{Call, event, request, update, write, draw, shuffle}
 use Rattle.quotas.specs.Entries.{Quotas, Entry, taking, entryNumber}
 use Rattle.reference.specs.Runs.{stateAfter}
 use Rattle.reference.specs.Timer.{reseedsAfter}
-use Rattle.reference.specs.Reference.{Accepted, empty, scheduledReseed, scheduled, select, contents, referenceAfter, referenceEntryNumber}
+use Rattle.reference.specs.Reference.{Accepted, scheduledReseed, scheduled, select, contents, referenceAfter, referenceEntryNumber}
 use Rattle.reference.specs.Provenance as Provenance
 use Rattle.reference.proofs.Bookings.{select-append}
 use Rattle.reference.proofs.Places.{newEvent, none-added, event-added}
 use Rattle.reference.proofs.Provenance.{same-reseeds, same-number}
+use Rattle.reference.proofs.Laws.{accepted-passed, no-events}
 use Rattle.history.specs.Strings.{Event, bytesOf, stringOf, Allowed, AllAllowed}
 use Rattle.history.specs.Runs.{bookedEvent, acceptedEvent, acceptedFrom}
 
@@ -87,33 +86,30 @@ none-allowed x m = absurd (List·Memᴰ·not-nil m)
 
 module _ (test : ℕ → Bool) (i : ℕ) where
   one-allowed :
-      (r source pool : ℕ) (content : List ℕ) → inputNumber (event source pool content) ≡ 0 →
-      AllAllowed (bookedEvent test i r (event source pool content))
-  unfolding bookedEvent inputNumber
-  one-allowed r source pool content h =
-      let p = input-passed source pool (length content) h in
-      split AllAllowed (eqb pool i && test (2 ^ pool * (r / 2 ^ pool + 1)))
+      (before : List Entry) (q : Quotas) (source pool : ℕ) (content : List ℕ) →
+      AllAllowed (acceptedEvent test i before (taking q (event source pool content)))
+  unfolding acceptedEvent bookedEvent
+  one-allowed before q source pool content =
+      let this = taking q (event source pool content) in
+      split AllAllowed (eqb (entryNumber (stateAfter before) this) 0)
+      (λ t.
+      let p = accepted-passed (stateAfter before) q source pool content (eqb-true _ 0 t) in
+      split AllAllowed (eqb pool i && test (2 ^ pool * (reseedsAfter before / 2 ^ pool + 1)))
       (λ _. singleton-allowed (record { source = source; content = content }) (record { known = p .known; some = p .some; short = p .short }))
+      (λ _. none-allowed))
       (λ _. none-allowed)
 
-  booked-allowed : (r : ℕ) (c : Call) → inputNumber c ≡ 0 → AllAllowed (bookedEvent test i r c)
-  booked-allowed r =
-      by-kind (λ c. inputNumber c ≡ 0 → AllAllowed (bookedEvent test i r c)) (one-allowed r)
-      (λ c o _. subst AllAllowed (sym (none-booked test i r c o)) none-allowed)
-
-  event-allowed : (before : List Entry) (c : Entry) → AllAllowed (acceptedEvent test i before c)
-  unfolding acceptedEvent entryNumber
-  event-allowed before c =
-      split AllAllowed (eqb (entryNumber (stateAfter before) c) 0)
-      (λ t. booked-allowed (reseedsAfter before) (c .call) (both-passed (inputNumber (c .call)) _ (eqb-true _ 0 t) .0))
-      (λ _. none-allowed)
+  event-allowed : (before : List Entry) (q : Quotas) (c : Call) → AllAllowed (acceptedEvent test i before (taking q c))
+  event-allowed before q =
+      by-kind (λ c. AllAllowed (acceptedEvent test i before (taking q c))) (one-allowed before q)
+      (λ c o. subst AllAllowed (sym (none-accepted test i before (taking q c) o)) none-allowed)
 
   pub all-allowed : (calls before : List Entry) → AllAllowed (acceptedFrom test i before calls)
   unfolding acceptedFrom
   all-allowed [] before = none-allowed
   all-allowed (c ∷ calls) before =
       λ x m.
-      ⊎-elim (λ k. event-allowed before c x k) (λ k. all-allowed calls (before ++ (c ∷ [])) x k)
+      ⊎-elim (λ k. event-allowed before (c .quotas) (c .call) x k) (λ k. all-allowed calls (before ++ (c ∷ [])) x k)
       (List·Memᴰ·append-cases (acceptedEvent test i before c) m)
 
   -- ---- the model's events of pool i whose reseed passes the test
@@ -190,4 +186,7 @@ module _ (test : ℕ → Bool) (i : ℕ) where
       (calls : List Entry) →
       contents (select (λ e. eqb (e .pool) i && test (scheduled e)) (referenceAfter calls .events)) ≡ stringOf (acceptedFrom test i [] calls)
   unfolding passes
-  events-string calls = from-calls calls [] ∙ (unfold referenceAfter stateFrom empty select contents joined in refl)
+  events-string calls =
+      from-calls calls []
+      ∙ ap (λ (es : List Accepted). contents (select passes es) ++ stringOf (acceptedFrom test i [] calls)) no-events
+      ∙ (unfold select contents joined in refl)

@@ -1,30 +1,26 @@
 -- A fresh station's pool gains any list of allowed events, 22 aside. So the strings that a pool can hold are those that are read to their end.
 -- Assumes nothing.
 use mathlib.Core.Path.{_≡_, refl, sym, ap, ap₂, subst, _∙_}
-use mathlib.Core.Bool.{Bool, true, false, true≢false}
+use mathlib.Core.Bool.{Bool}
 use mathlib.Core.List.{List, [], _∷_, _++_, map, map-append, append-assoc, append-nil, List·Memᴰ·head, List·Memᴰ·tail}
 use Prim.Native.Nat.{ℕ, _+_, _*_, _/_, _^_, _≤_, _<_}
 use native.Mathlib.Omega.{arith}
 use lib.Dec.{ltb}
 use lib.ListN.{length, length-append}
-use borrow.Author.Tests.{lt-ltb, le-ltb, eq-eqb, ne-eqb, ltb-true}
-use Rattle.laws.proofs.Cases.{by-test}
+use borrow.Author.Tests.{lt-ltb, eq-eqb}
 use Rattle.laws.proofs.Lists.{joined-one}
 use Rattle.hash.specs.ShaD.{maxPoolLength}
 use Rattle.pools.specs.declared.Fortuna.{Fortuna}
-use Rattle.pools.specs.Events.{maxSource, poolCount, maxData, gain}
-use Rattle.pools.specs.Pool.{full}
-use Rattle.pools.specs.Refusals.{andThen, eventInput, eventState, eventNumber}
-use Rattle.pools.specs.Calls.{event, inputNumber, callFound, Outcome, outcome, runFrom}
+use Rattle.pools.specs.Events.{poolCount, gain}
+use Rattle.pools.proofs.Acceptance.{event-accepted}
+use Rattle.pools.specs.Calls.{event, Outcome}
 use Rattle.quotas.specs.Entries.{without, Entry, taking, entryNumber, entryStep}
 use Rattle.reference.specs.Runs.{run, stateAfter}
-use Rattle.reference.specs.ReferenceLists.{byRecords}
-use Rattle.reference.specs.Reference.{Reference, poolContents, referenceNumber, referenceAfter, referenceEntryNumber, scheduledReseed}
-use Rattle.reference.specs.Timer.{requests, poolReseeds, reseedsAfter}
+use Rattle.reference.specs.Reference.{scheduledReseed}
+use Rattle.reference.specs.Timer.{reseedsAfter}
 use Rattle.reference.proofs.Schedule.{scheduled-later}
-use Rattle.reference.proofs.Timer.{reseed-told}
-use Rattle.reference.proofs.Provenance.{same-number}
 use Rattle.reference.proofs.Correct.{run-correct}
+use Rattle.reference.proofs.Laws.{bare-number, event-number, event-makes-none, reseeds-none, reseeds-more}
 use Rattle.history.specs.Strings.{Event, bytesOf, stringOf, Allowed, AllAllowed}
 use Rattle.history.specs.Reader.{History, history}
 use Rattle.history.specs.Runs.{bookedEvent, acceptedEvent, acceptedFrom, waitingIn, stringIn}
@@ -33,7 +29,6 @@ use Rattle.history.proofs.Strings.{length-bytes}
 use Rattle.history.proofs.Histories.{history-laws}
 use Rattle.history.proofs.Calls.{string-append}
 use Rattle.history.proofs.Runs.{held, held-model}
-use Rattle.history.proofs.Hashing.{reseeds-append}
 
 -- ---- one call more
 
@@ -67,29 +62,6 @@ module _ (i : ℕ) (h : i < poolCount) where
   abbrev into : Event → Entry
   into e = taking without (event (e .source) i (e .content))
 
-  -- no event makes a reseed
-  none-made : (s : Fortuna) (e : Event) → ltb 0 (entryStep s (into e) .effect .emptied) ≡ false
-  none-made s e =
-      by-test (ltb 0 (entryStep s (into e) .effect .emptied)) (ltb 0 (entryStep s (into e) .effect .emptied) ≡ false)
-      (λ t. absurd (true≢false (sym (reseed-told s (into e) .0 (ltb-true 0 _ t) .1) ∙ (unfold requests in refl))))
-      (λ t. t)
-
-  input-none : (e : Event) → Allowed e → eventInput (e .source) i (length (e .content)) ≡ 0
-  unfolding eventInput poolCount
-  input-none e a =
-      rw (
-        le-ltb maxSource (e .source) (a .known),
-        le-ltb 31 i (omega arith),
-        ne-eqb (length (e .content)) 0 (λ z. omega (arith, a .some)),
-        le-ltb maxData (length (e .content)) (a .short),
-      )
-
-  number-none :
-      (b : Reference) (e : Event) → Allowed e → length (poolContents b i) + gain (length (e .content)) ≤ maxPoolLength →
-      referenceEntryNumber b (into e) ≡ 0
-  unfolding referenceEntryNumber referenceNumber eventNumber eventState full inputNumber byRecords andThen
-  number-none b e a room = rw (input-none e a, le-ltb maxPoolLength (length (poolContents b i) + gain (length (e .content))) room)
-
   -- ---- a list of them
 
   -- what has come of the first events of a list
@@ -119,14 +91,13 @@ module _ (i : ℕ) (h : i < poolCount) where
 
     accepted : entryNumber (stateAfter calls) (into e) ≡ 0
     accepted =
-        same-number calls (into e)
-        ∙ number-none (referenceAfter calls) e a
+        bare-number calls (e .source) i (e .content)
+        ∙ event-accepted _ (e .source) i (length (e .content)) (record { known = a .known; place = h; some = a .some; short = a .short })
         (subst (λ (n : ℕ). n + gain (length (e .content)) ≤ maxPoolLength) (sym (ap length (sym (held-model calls i h) ∙ held-is)))
         (subst (λ (n : ℕ). n ≤ maxPoolLength) grown room))
 
     number-is : entryStep (stateAfter calls) (into e) .number ≡ 0
-    unfolding entryStep outcome callFound andThen
-    number-is = rw accepted
+    number-is = event-number (stateAfter calls) without (e .source) i (e .content) ∙ accepted
 
     event-is : acceptedEvent (λ k. ltb 0 k) i calls (into e) ≡ e ∷ []
     unfolding acceptedEvent bookedEvent scheduledReseed
@@ -134,11 +105,9 @@ module _ (i : ℕ) (h : i < poolCount) where
         rw (accepted, eq-eqb i i refl, lt-ltb 0 (2 ^ i * (reseedsAfter calls / 2 ^ i + 1)) (omega (arith, scheduled-later i (reseedsAfter calls))))
 
     none-after : reseedsAfter (calls ++ (into e ∷ [])) ≡ 0
-    unfolding reseedsAfter
     none-after =
-        ap poolReseeds (run-correct calls .steps .more calls (into e))
-        ∙ reseeds-append (run calls) (entryStep (stateAfter calls) (into e))
-        ∙ rw (none-made (stateAfter calls) e) (omega (arith, g .none))
+        reseeds-more calls (into e)
+        ∙ rw (event-makes-none (stateAfter calls) without (e .source) i (e .content)) (omega (arith, g .none))
 
     waits-after : waitingIn (calls ++ (into e ∷ [])) i ≡ es ++ (e ∷ [])
     unfolding waitingIn
@@ -161,8 +130,9 @@ module _ (i : ℕ) (h : i < poolCount) where
         }
 
   gaining-none : Gaining []
-  unfolding eventsInto run runFrom reseedsAfter poolReseeds waitingIn acceptedFrom
-  gaining-none = record { numbers = refl; none = refl; waits = refl }
+  unfolding eventsInto waitingIn acceptedFrom
+  gaining-none =
+      record { numbers = ap (map (λ (o : Outcome Fortuna). o .number)) (run-correct [] .steps .none); none = reseeds-none; waits = refl }
 
   -- the events es after ds
   gaining : (es ds : List Event) → Gaining ds → AllAllowed es → Within (ds ++ es) → Gaining (ds ++ es)

@@ -12,15 +12,15 @@ use Rattle.laws.proofs.Cases.{split}
 use Rattle.laws.proofs.Lists.{joined-map}
 use Rattle.hash.specs.ShaD.{D}
 use Rattle.generator.specs.Steps.{decode, encode, reseed}
-use Rattle.pools.specs.declared.Fortuna.{Fortuna}
 use Rattle.pools.specs.Effects.{poolReseed}
-use Rattle.pools.specs.Calls.{readingOf, Outcome}
+use Rattle.pools.specs.Calls.{readingOf}
 use Rattle.quotas.specs.Entries.{Entry, entryStep}
-use Rattle.reference.specs.Runs.{run, stateAfter}
-use Rattle.reference.specs.Timer.{poolReseeds, reseedsAfter}
+use Rattle.reference.specs.Runs.{stateAfter}
+use Rattle.reference.specs.Timer.{reseedsAfter}
 use Rattle.reference.specs.Reference.{referenceAfter}
 use Rattle.reference.specs.Provenance.{PoolUse, erased, Traced, useOf, nextUses, traced, atReseed, reseededBy, EntersKey}
 use Rattle.reference.proofs.Correct.{run-correct}
+use Rattle.reference.proofs.Laws.{reseeds-more}
 use Rattle.history.specs.Runs.{usesOf, stringsAt}
 use Rattle.history.proofs.Runs.{uses-append, uses-none, uses-model}
 
@@ -39,22 +39,12 @@ module _ (t : Traced) where
 
 -- ---- one call more
 
-pub reseeds-append :
-    (os : List (Outcome Fortuna)) (o : Outcome Fortuna) → poolReseeds (os ++ (o ∷ [])) ≡ poolReseeds os + cond (ltb 0 (o .effect .emptied)) 1 0
-unfolding poolReseeds
-reseeds-append [] o = omega arith
-reseeds-append (p ∷ os) o = omega (arith, reseeds-append os o)
-
 module _ (calls : List Entry) (c : Entry) where
   abbrev makes : Bool
   makes = ltb 0 (entryStep (stateAfter calls) c .effect .emptied)
 
   enters : EntersKey calls c
   enters = run-correct (calls ++ (c ∷ [])) .provenance .key calls c [] refl
-
-  reseeds-more : reseedsAfter (calls ++ (c ∷ [])) ≡ reseedsAfter calls + cond makes 1 0
-  unfolding reseedsAfter
-  reseeds-more = ap poolReseeds (run-correct calls .steps .more calls c) ∙ reseeds-append (run calls) (entryStep (stateAfter calls) c)
 
   uses-more :
       (n : ℕ) →

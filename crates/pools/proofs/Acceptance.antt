@@ -8,7 +8,7 @@ use native.Mathlib.Nat.{pos-of-ne-zero}
 use native.Mathlib.Omega.{arith}
 use lib.Dec.{eqb, ltb}
 use lib.ListN.{length}
-use borrow.Author.Tests.{ltb-false, le-ltb, eqb-true, eqb-false}
+use borrow.Author.Tests.{ltb-false, le-ltb, eqb-true, eqb-false, ne-eqb}
 use Rattle.laws.specs.Refusals.{refuse}
 use Rattle.laws.specs.Blocks.{blockCount}
 use Rattle.laws.proofs.Cases.{split, by-test, neither}
@@ -134,6 +134,19 @@ input-passed source pool n e =
 pub event-passed : (m : Bool) (size source pool n : ℕ) → eventNumber m size source pool n ≡ 0 → EventPassed source pool n
 unfolding eventNumber
 event-passed m size source pool n e = input-passed source pool n (both-passed (eventInput source pool n) (eventState m size n) e .0)
+
+-- and the other way round
+pub event-accepted :
+    (size source pool n : ℕ) → EventPassed source pool n → size + gain n ≤ maxPoolLength → eventNumber false size source pool n ≡ 0
+unfolding eventNumber eventInput eventState full poolCount andThen
+event-accepted size source pool n p room =
+    rw (
+      le-ltb maxSource source (p .known),
+      le-ltb 31 pool (omega (arith, p .place)),
+      ne-eqb n 0 (λ z. omega (arith, p .some)),
+      le-ltb maxData n (p .short),
+      le-ltb maxPoolLength (size + gain n) room,
+    )
 
 pub event-room : (m : Bool) (size source pool n : ℕ) → eventNumber m size source pool n ≡ 0 → size + gain n ≤ maxPoolLength
 unfolding eventNumber eventState full

@@ -22,6 +22,7 @@ pub mod Provenance
 pub mod KeyRequests
 pub mod BlankPages
 pub mod Correct
+pub mod Laws
 pub mod Computing
 pub mod Readings
 pub mod Boundaries
