@@ -2,32 +2,33 @@
 -- Assumes nothing.
 use mathlib.Core.Path.{_≡_, refl, sym, ap, ap₂, subst, _∙_}
 use mathlib.Core.Bool.{Bool, true, false, cond, _&&_}
-use mathlib.Core.Logic.{_↔_}
-use mathlib.Core.List.{List, [], _∷_, _++_}
+use mathlib.Core.Logic.{_↔_, ⊎-elim}
+use mathlib.Core.List.{List, [], _∷_, _++_, map, List·Memᴰ, List·Memᴰ·head, List·Memᴰ·tail, List·Memᴰ·not-nil, List·Memᴰ·cases-cons}
 use Prim.Native.Nat.{ℕ, _+_, _*_, _/_, _^_, _<_}
 use native.Mathlib.Omega.{arith}
 use lib.Dec.{eqb}
 use lib.ListN.{length}
 use borrow.Author.Tests.{eqb-true, eqb-false, eq-eqb}
 use Rattle.laws.specs.Lists.{joined}
-use Rattle.laws.proofs.Cases.{by-test, both}
+use Rattle.laws.proofs.Cases.{by-test, both, split}
 use Rattle.hash.specs.ShaD.{D}
 use Rattle.generator.specs.Steps.{decode, encode, reseed}
-use Rattle.pools.specs.Effects.{poolReseed}
+use Rattle.pools.specs.Schedule.{usedPools}
 use Rattle.pools.specs.Calls.{Call, event, readingOf}
 use Rattle.quotas.specs.Entries.{Quotas, Entry, taking, entryNumber, entryStep}
 use Rattle.reference.specs.Runs.{stateAfter}
 use Rattle.reference.specs.Timer.{reseedsAfter}
-use Rattle.reference.specs.Reference.{scheduledReseed}
-use Rattle.reference.specs.Provenance.{atReseed, EntersAt}
+use Rattle.reference.specs.Reference.{Accepted, scheduledReseed, referenceAfter}
+use Rattle.reference.specs.Provenance.{PoolUse, traced, scheduledUse, EntersAt}
 use Rattle.reference.proofs.Schedule.{scheduled-later}
 use Rattle.reference.proofs.Correct.{run-correct}
 use Rattle.history.specs.Strings.{Event}
-use Rattle.history.specs.Runs.{bookedEvent, acceptedEvent, made, stringsAt}
+use Rattle.history.specs.Runs.{bookedEvent, acceptedEvent, bookedFor, made, enteredAt, usesOf}
 use Rattle.history.specs.RunStatements.{BehindLaw}
 use Rattle.history.proofs.Calls.{isEvent, by-kind, no-event, none-accepted}
-use Rattle.history.proofs.Hashing.{strings-hashed}
-use Rattle.history.proofs.Runs.{made-by, made-parts, strings-are, worked-out}
+use Rattle.history.proofs.Making.{makes-are}
+use Rattle.history.proofs.Hashing.{strings-held, strings-hashed, key-taken}
+use Rattle.history.proofs.Runs.{made-by, made-parts, uses-made, uses-unmade, strings-are, all-whole, worked-out}
 
 module _ (before : List Entry) (later : List Entry) (n i : ℕ) where
   abbrev Told : Entry → Type 0
@@ -99,25 +100,59 @@ module _ (before : List Entry) (later : List Entry) (n i : ℕ) where
   call-told : (q : Quotas) (c : Call) → Told (taking q c)
   call-told q = by-kind (λ c. Told (taking q c)) (event-told q) (other-told q)
 
--- ---- the claims
+-- ---- the pools that are listed
 
-by-same :
-    (calls : List Entry) (n : ℕ) (before : List Entry) (c : Entry) (later : List Entry) → before ++ (c ∷ later) ≡ calls →
-    0 < entryStep (stateAfter before) c .effect .emptied → n ≡ reseedsAfter before + 1 →
-    let s = atReseed (stateAfter before) (c .call) in
-    poolReseed s (readingOf (c .call)) .generator ≡ encode (reseed (decode (s .generator)) (joined D (stringsAt calls n)))
-by-same calls n before c later same made number =
-    let s = atReseed (stateAfter before) (c .call) in
-    strings-hashed before c later made
-    ∙ ap₂ (λ (l : List Entry) (k : ℕ). encode (reseed (decode (s .generator)) (joined D (stringsAt l k)))) same (sym number)
+mem-uses : (n : ℕ) (us : List PoolUse) (u : PoolUse) → u .reseedNumber ≡ n → List·Memᴰ u us → List·Memᴰ u (usesOf n us)
+unfolding usesOf
+mem-uses n [] u q m = absurd (List·Memᴰ·not-nil m)
+mem-uses n (v ∷ us) u q m =
+    ⊎-elim
+    (λ e.
+    let t : eqb (v .reseedNumber) n ≡ true = eq-eqb (v .reseedNumber) n (sym (ap (λ (x : PoolUse). x .reseedNumber) e) ∙ q) in
+    rw t (List·Memᴰ·head e))
+    (λ k.
+    split (λ (l : List PoolUse). List·Memᴰ u l) (eqb (v .reseedNumber) n)
+    (λ _. List·Memᴰ·tail (mem-uses n us u q k))
+    (λ _. mem-uses n us u q k))
+    (List·Memᴰ·cases-cons m)
+
+mem-map : {A B : Type 0} (f : A → B) (l : List A) (x : A) → List·Memᴰ x l → List·Memᴰ (f x) (map f l)
+mem-map f [] x m = absurd (List·Memᴰ·not-nil m)
+mem-map f (y ∷ l) x m = ⊎-elim (λ q. List·Memᴰ·head (ap f q)) (λ k. List·Memᴰ·tail (mem-map f l x k)) (List·Memᴰ·cases-cons m)
+
+use-pool : (es : List Accepted) (n : ℕ) (l : List ℕ) (u : PoolUse) → List·Memᴰ u (joined (scheduledUse es n) l) → List·Memᴰ (u .pool) l
+unfolding joined scheduledUse
+use-pool es n [] u m = absurd (List·Memᴰ·not-nil m)
+use-pool es n (i ∷ l) u m =
+    ⊎-elim (λ q. List·Memᴰ·head (ap (λ (x : PoolUse). x .pool) q)) (λ k. List·Memᴰ·tail (use-pool es n l u k)) (List·Memᴰ·cases-cons m)
+
+pool-listed : (calls : List Entry) (n place i : ℕ) → EntersAt calls place n i
+    → List·Memᴰ (record { pool = i; events = bookedFor calls n i }) (enteredAt calls n)
+unfolding enteredAt
+pool-listed calls n place i a =
+    by-test (made calls n) (List·Memᴰ (record { pool = i; events = bookedFor calls n i }) (enteredAt calls n))
+    (λ t.
+    let pool = use-pool (referenceAfter calls .events) n (usedPools n) (a .poolUse) (subst (List·Memᴰ (a .poolUse)) (uses-made calls n t) inside) in
+    rw t (mem-map (λ j. record { pool = j; events = bookedFor calls n j }) (usedPools n) i (subst (λ j. List·Memᴰ j (usedPools n)) (a .pool) pool)))
+    (λ t. absurd (List·Memᴰ·not-nil (subst (List·Memᴰ (a .poolUse)) (uses-unmade calls n t) inside)))
+  where
+    inside : List·Memᴰ (a .poolUse) (usesOf n (traced calls .uses))
+    inside = mem-uses n (traced calls .uses) (a .poolUse) (a .reseedNumber) (a .made)
+
+-- ---- the claim
 
 pub behind : BehindLaw
 behind calls n =
     record {
       strings = strings-are calls n;
+      whole = all-whole calls n;
       worked = worked-out calls n;
-      hashed = λ before c later same m number. by-same calls n before c later same m number;
+      makes = makes-are calls n;
+      held = strings-held calls n;
+      hashed = strings-hashed calls n;
+      taken = key-taken calls n;
       enters = λ before c later same i.
           subst (λ (l : List Entry). EntersAt l (length before) n i ↔ ((made l n ≡ true) × (0 < length (acceptedEvent (λ k. eqb k n) i before c))))
           same (call-told before later n i (c .quotas) (c .call));
+      listed = pool-listed calls n;
     }

@@ -1,6 +1,6 @@
 -- The strings of a reseed are those that its call hashes into the key, whatever comes later.
 -- Assumes nothing.
-use mathlib.Core.Path.{_≡_, refl, sym, ap, ap₂, subst, _∙_}
+use mathlib.Core.Path.{_≡_, refl, sym, ap, ap₂, subst, subst₂, _∙_}
 use mathlib.Core.Bool.{Bool, true, cond}
 use mathlib.Core.List.{List, [], _∷_, _++_, map, append-assoc, append-nil}
 use Prim.Native.Nat.{ℕ, _+_, _≤_, _<_}
@@ -12,16 +12,23 @@ use Rattle.laws.proofs.Cases.{split}
 use Rattle.laws.proofs.Lists.{joined-map}
 use Rattle.hash.specs.ShaD.{D}
 use Rattle.generator.specs.Steps.{decode, encode, reseed}
-use Rattle.pools.specs.Effects.{poolReseed}
+use Rattle.generator.specs.declared.Generator.{Generator}
+use Rattle.pools.specs.declared.Fortuna.{Fortuna}
+use Rattle.pools.specs.Schedule.{usedPools}
+use Rattle.pools.specs.Effects.{nextReseed, poolReseed}
 use Rattle.pools.specs.Calls.{readingOf}
 use Rattle.quotas.specs.Entries.{Entry, entryStep}
 use Rattle.reference.specs.Runs.{stateAfter}
 use Rattle.reference.specs.Timer.{reseedsAfter}
 use Rattle.reference.specs.Reference.{referenceAfter}
-use Rattle.reference.specs.Provenance.{PoolUse, erased, Traced, useOf, nextUses, traced, atReseed, reseededBy, EntersKey}
+use Rattle.reference.specs.Provenance.{PoolUse, erased, Traced, useOf, nextUses, traced, dueFor, madeFrom, TakenFrom, reseededBy, EntersKey}
+use Rattle.reference.proofs.Simulation.{used-pools-concrete}
+use Rattle.reference.proofs.Timer.{reseed-told}
+use Rattle.reference.proofs.Provenance.{same-reseeds}
 use Rattle.reference.proofs.Correct.{run-correct}
 use Rattle.reference.proofs.Laws.{reseeds-more}
-use Rattle.history.specs.Runs.{usesOf, stringsAt}
+use Rattle.history.specs.Runs.{usesOf, stringsAt, stringIn}
+use Rattle.history.specs.RunStatements.{Makes, reseedState, keyFrom}
 use Rattle.history.proofs.Runs.{uses-append, uses-none, uses-model}
 
 -- ---- the next reseed's uses
@@ -72,37 +79,74 @@ later-same (d ∷ later) front n h =
 
 -- ---- the call that makes a reseed
 
-module _ (before : List Entry) (c : Entry) (later : List Entry) (made : 0 < entryStep (stateAfter before) c .effect .emptied) where
+module _ (before : List Entry) (c : Entry) (later : List Entry) (empties : 0 < entryStep (stateAfter before) c .effect .emptied) where
   abbrev number : ℕ
   number = reseedsAfter before + 1
 
   makes-one : makes before c ≡ true
-  makes-one = lt-ltb 0 _ made
+  makes-one = lt-ltb 0 _ empties
 
   reached : number ≤ reseedsAfter (before ++ (c ∷ []))
   reached = rw (reseeds-more before c, makes-one) (omega arith)
 
-  uses-are : usesOf number (traced (before ++ (c ∷ later)) .uses) ≡ nextUses (traced before)
-  uses-are =
+  all-next : usesOf number (nextUses (traced before)) ≡ nextUses (traced before)
+  all-next =
+      subst (λ (n : ℕ). usesOf (n + 1) (nextUses (traced before)) ≡ nextUses (traced before)) (run-correct before .provenance .faithful .reseeds)
+      (unfold nextUses in next-same (traced before) _)
+
+  uses-next : usesOf number (traced (before ++ (c ∷ later)) .uses) ≡ nextUses (traced before)
+  uses-next =
       ap (λ (l : List Entry). usesOf number (traced l .uses)) (sym (append-assoc before (c ∷ []) later))
       ∙ later-same later (before ++ (c ∷ [])) number reached
       ∙ uses-more before c number
       ∙ ap₂ (λ (x y : List PoolUse). x ++ y)
       (uses-model before number ∙ uses-none (referenceAfter before .events) (reseedsAfter before) number (λ k l q. omega arith))
       (ap (λ (b : Bool). usesOf number (cond b (nextUses (traced before)) [])) makes-one ∙ all-next)
-    where
-      all-next : usesOf number (nextUses (traced before)) ≡ nextUses (traced before)
-      all-next =
-          subst (λ (n : ℕ). usesOf (n + 1) (nextUses (traced before)) ≡ nextUses (traced before)) (run-correct before .provenance .faithful .reseeds)
-          (unfold nextUses in next-same (traced before) _)
 
-  pub strings-hashed :
-      let s = atReseed (stateAfter before) (c .call) in
-      poolReseed s (readingOf (c .call)) .generator
-      ≡ encode (reseed (decode (s .generator)) (joined D (stringsAt (before ++ (c ∷ later)) number)))
+module _ (calls : List Entry) (n : ℕ) (m : Makes calls n) where
+  abbrev front : List Entry
+  front = m .before
+
+  uses-are : usesOf n (traced calls .uses) ≡ nextUses (traced front)
+  uses-are =
+      subst₂ (λ (l : List Entry) (k : ℕ). usesOf k (traced l .uses) ≡ nextUses (traced front)) (m .whole) (sym (m .number))
+      (uses-next front (m .call) (m .later) (m .empties))
+
+  same-key : reseededBy front (m .call .call) ≡ keyFrom m
   unfolding stringsAt reseededBy
-  strings-hashed =
-      enters before c .key
-      ∙ ap (λ (d : List ℕ). encode (reseed (decode (atReseed (stateAfter before) (c .call) .generator)) d))
+  same-key =
+      ap (λ (d : List ℕ). encode (reseed (decode (reseedState m .generator)) d))
       (sym (ap (λ (us : List PoolUse). joined D (map (λ u. erased (u .pieces)) us)) uses-are
-      ∙ joined-map D (λ (u : PoolUse). erased (u .pieces)) (nextUses (traced before))))
+      ∙ joined-map D (λ (u : PoolUse). erased (u .pieces)) (nextUses (traced front))))
+
+  pub strings-hashed : poolReseed (reseedState m) (readingOf (m .call .call)) .generator ≡ keyFrom m
+  strings-hashed = enters front (m .call) .key ∙ same-key
+
+  -- the call goes on from that key
+  is-due : dueFor (stateAfter front) (m .call .call) ≡ true
+  unfolding dueFor
+  is-due = let t = reseed-told (stateAfter front) (m .call) .0 (m .empties) in rw (t .1, t .2) refl
+
+  pub key-taken : TakenFrom (madeFrom (decode (keyFrom m)) (m .call .call)) (entryStep (stateAfter front) (m .call))
+  key-taken =
+      subst (λ (g : Generator). TakenFrom (madeFrom (decode g) (m .call .call)) (entryStep (stateAfter front) (m .call))) same-key
+      (enters front (m .call) .taken (reseed-told (stateAfter front) (m .call) .0 (m .empties) .0) is-due)
+
+  -- ---- what the pools hold
+
+  given : (l : List ℕ) → map (λ (u : PoolUse). erased (u .pieces)) (joined (useOf (traced front)) l) ≡ map (stringIn front) l
+  unfolding joined useOf stringIn
+  given [] = refl
+  given (i ∷ l) = ap (λ (x : List (List ℕ)). erased (traced front .pieces i) ∷ x) (given l)
+
+  next-pools : usedPools (nextReseed (traced front .state)) ≡ usedPools n
+  next-pools =
+      ap (λ (s : Fortuna). usedPools (nextReseed s)) (run-correct front .provenance .faithful .state ∙ run-correct front .agreement .state)
+      ∙ used-pools-concrete (referenceAfter front)
+      ∙ ap usedPools (ap (λ (r : ℕ). r + 1) (sym (same-reseeds front)) ∙ sym (m .number))
+
+  pub strings-held : stringsAt calls n ≡ map (stringIn front) (usedPools n)
+  unfolding stringsAt nextUses
+  strings-held =
+      ap (map (λ (u : PoolUse). erased (u .pieces))) uses-are
+      ∙ given (usedPools (nextReseed (traced front .state))) ∙ ap (map (stringIn front)) next-pools

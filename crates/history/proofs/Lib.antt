@@ -4,6 +4,7 @@ pub mod Histories
 pub mod Sizes
 pub mod Calls
 pub mod Runs
+pub mod Making
 pub mod Hashing
 pub mod Entering
 pub mod Gaining

@@ -115,21 +115,27 @@ module _ (calls : List Entry) (n : ℕ) where
   unfolding made
   made-parts t = let b = both _ _ t in (ltb-true 0 n (b .0), leb-true n (reseedsAfter calls) (b .1))
 
+  -- the uses of a reseed that was made, and of one that was not
+  pub uses-made : made calls n ≡ true → usesOf n (traced calls .uses) ≡ joined (scheduledUse (referenceAfter calls .events) n) (usedPools n)
+  uses-made t =
+      let m = made-parts t in
+      uses-model ∙ uses-there (referenceAfter calls .events) (reseedsAfter calls) n (m .0) (m .1)
+
+  pub uses-unmade : made calls n ≡ false → usesOf n (traced calls .uses) ≡ []
+  uses-unmade t =
+      uses-model
+      ∙ uses-none (referenceAfter calls .events) (reseedsAfter calls) n (λ k l q. true≢false (sym (made-by (omega arith) (omega arith)) ∙ t))
+
   made-strings : made calls n ≡ true → stringsAt calls n ≡ map (λ x. stringOf (x .events)) (map through (usedPools n))
   unfolding stringsAt
   made-strings t =
-      let m = made-parts t in
-      ap (map (λ (u : PoolUse). erased (u .pieces)))
-      (uses-model ∙ uses-there (referenceAfter calls .events) (reseedsAfter calls) n (m .0) (m .1))
+      ap (map (λ (u : PoolUse). erased (u .pieces))) (uses-made t)
       ∙ strings-of (referenceAfter calls .events) n (usedPools n)
       ∙ strings-through (usedPools n)
 
-  no-strings : made calls n ≡ false → stringsAt calls n ≡ []
+  pub no-strings : made calls n ≡ false → stringsAt calls n ≡ []
   unfolding stringsAt
-  no-strings t =
-      ap (map (λ (u : PoolUse). erased (u .pieces)))
-      (uses-model ∙ uses-none (referenceAfter calls .events) (reseedsAfter calls) n
-      (λ k l q. true≢false (sym (made-by (omega arith) (omega arith)) ∙ t)))
+  no-strings t = ap (map (λ (u : PoolUse). erased (u .pieces))) (uses-unmade t)
 
   pub strings-are : stringsAt calls n ≡ map (λ x. stringOf (x .events)) (enteredAt calls n)
   unfolding enteredAt
@@ -139,14 +145,34 @@ module _ (calls : List Entry) (n : ℕ) where
 
   -- ---- worked out
 
-  read-through : (i : ℕ) → history (stringOf (bookedFor calls n i)) .events ≡ bookedFor calls n i
+  read-through :
+      (i : ℕ) →
+      let es = bookedFor calls n i in
+      history (stringOf es) ≡ record { events = es; number = 0; place = length (stringOf es) }
   unfolding bookedFor
-  read-through i = ap (λ (h : History). h .events) (read-back (acceptedFrom (λ k. eqb k n) i [] calls) (all-allowed (λ k. eqb k n) i calls []))
+  read-through i = read-back (acceptedFrom (λ k. eqb k n) i [] calls) (all-allowed (λ k. eqb k n) i calls [])
 
   read-pools : (l : List ℕ) → readInto l (map (λ x. stringOf (x .events)) (map through l)) ≡ map through l
   unfolding readInto
   read-pools [] = refl
-  read-pools (i ∷ l) = ap₂ (λ (x : List Event) (y : List Entered). record { pool = i; events = x } ∷ y) (read-through i) (read-pools l)
+  read-pools (i ∷ l) =
+      ap₂ (λ (x : History) (y : List Entered). record { pool = i; events = x .events } ∷ y) (read-through i) (read-pools l)
+
+  -- each string to its end
+  abbrev numbersOf : List (List ℕ) → List ℕ
+  numbersOf strings = map (λ s. history s .number) strings
+
+  read-whole : (l : List ℕ) → numbersOf (map (λ x. stringOf (x .events)) (map through l)) ≡ map (λ s. 0) (map (λ x. stringOf (x .events)) (map through l))
+  read-whole [] = refl
+  read-whole (i ∷ l) = ap₂ (λ (x : History) (y : List ℕ). x .number ∷ y) (read-through i) (read-whole l)
+
+  pub all-whole : numbersOf (stringsAt calls n) ≡ map (λ s. 0) (stringsAt calls n)
+  unfolding enteredAt
+  all-whole =
+      rw strings-are
+      (by-test (made calls n)
+      (numbersOf (map (λ x. stringOf (x .events)) (enteredAt calls n)) ≡ map (λ s. 0) (map (λ x. stringOf (x .events)) (enteredAt calls n)))
+      (λ t. rw t (read-whole (usedPools n))) (λ t. rw t))
 
   none-read : (l : List ℕ) → readInto l [] ≡ []
   unfolding readInto
