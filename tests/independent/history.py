@@ -34,7 +34,7 @@ def string_of(events):
 
 
 def pattern(sizes=SIZES, header=b"(..)", data=b"."):
-    """What stands at a place where an event starts. Its first group is the source and the last that matched the data."""
+    """What stands where an event starts. Its first group is the source, and the last that matched is the data."""
     cases = [b"%s(%s{%d})" % (re.escape(bytes([size])), data, size) for size in sizes]
     return re.compile(header + b"(?:" + b"|".join(cases) + b")", re.DOTALL)
 
@@ -99,7 +99,7 @@ def is_event(part):
 
 
 def lists_giving(string):
-    """How many lists of events give the string: for each of its starts, by the last event's bytes, whichever they are."""
+    """How many lists of events give the string: for each of its starts, by every choice of the last event's bytes."""
     counts = [1]
     for end in range(1, len(string) + 1):
         starts = range(max(end - 3 - SIZES[-1], 0), end)
