@@ -33,9 +33,9 @@ def string_of(events):
 # ---- from the string to events
 
 
-def pattern(sizes=SIZES, header=b"(..)", data=b"."):
+def pattern(sizes=SIZES, header=b"(..)", data=b"(.{%d})"):
     """What stands where an event starts. Its first group is the source, and the last that matched is the data."""
-    cases = [b"%s(%s{%d})" % (re.escape(bytes([size])), data, size) for size in sizes]
+    cases = [re.escape(bytes([size])) + data % size for size in sizes]
     return re.compile(header + b"(?:" + b"|".join(cases) + b")", re.DOTALL)
 
 
