@@ -19,6 +19,9 @@ class Parser(argparse.ArgumentParser):
     def error(self, message):
         self.exit(2, f"{self.prog}: {message}; {self.prog} --help says what there is\n")
 
+    def say(self, text):
+        self._print_message(f"{self.prog}: {text}\n", sys.stderr)
+
     def opened(self, name):
         """The file of that name."""
         try:
@@ -29,7 +32,7 @@ class Parser(argparse.ArgumentParser):
     def cut_off(self, why):
         """A read or a write has failed. What is still to be written has nowhere to go, so nothing tries it at the end."""
         where = "" if why.filename is None else f"{why.filename}: "
-        self._print_message(f"{self.prog}: reading or writing failed: {where}{why.strerror}\n", sys.stderr)
+        self.say(f"reading or writing failed: {where}{why.strerror}")
         os._exit(2)
 
     def status_of(self, work):

@@ -1,5 +1,6 @@
 #!/usr/bin/env python3
 """usage: logbook [--edition YEAR] [--header BYTES] [--blank taken|refused] [FILE]
+       logbook --behind N | --behind-key HEX | --strings N [--edition ..] [--header ..] [--blank ..] [FILE]
        logbook --compare ANSWERS [FILE]
 
 Works the answers to a log out again, keys included, from the calls in the log alone, and prints them as bin/bench does.
@@ -18,15 +19,30 @@ no FILE is given.
                        that differs, if any
   --help               prints this
 
-Exit status: 0 every line was answered, or exactly one edition gives ANSWERS; 1 none does, or both, as for a log that
-draws no byte; 2 bad arguments, a file can't be read, or the answers can't be written.
+With one of these it prints in place of the answers which events have entered a key. Seeds, which updates bring, are not
+among them.
+
+  --behind N           the events that pool reseeds 1 to N have used, in the order of reseed, pool, and order in the
+                       pool, each as `line 3: reseed 1, pool 0, order 1, source 7, data A1B2`: line 3 of the log
+  --behind-key HEX     the first line whose answer holds these bytes, and the events that had entered the key by then:
+                       `line 12 draws it, after pool reseed 3` and what --behind 3 prints
+  --strings N          the pools' byte strings that pool reseeds 1 to N have used, each as
+                       `reseed 1, pool 0: 070002A1B2`, with nothing behind the colon where a pool was empty. bin/events
+                       reads them back into events, by the proved library, but for those of --header 1
+
+Exit status: 0 every line was answered, what is behind a key was found, or exactly one edition gives ANSWERS; 1 none
+does, or both, as for a log that draws no byte; 1 also where the log makes fewer than N pool reseeds, or no answer holds
+the bytes; 2 bad arguments, a file can't be read, or the answers can't be written.
 """
+import re
 import signal
 import sys
+from argparse import ArgumentTypeError
 from collections import namedtuple
 from functools import partial
 from itertools import zip_longest
 
+import behind
 from arguments import Parser
 from logbook import Logbook, answer, answers, lines
 
@@ -123,11 +139,31 @@ def compare(log, stored):
     return 0 if len({kind.edition for kind in agreeing}) == 1 else 1
 
 
+def reseed_number(text):
+    if not re.fullmatch("[0-9]{1,18}", text):
+        raise ArgumentTypeError(f"'{text}' is no number of pool reseeds")
+    return int(text)
+
+
+def whole_bytes(text):
+    if not re.fullmatch("([0-9A-Fa-f]{2})+", text):
+        raise ArgumentTypeError(f"'{text}' is no row of bytes, with two hexadecimal digits each")
+    return bytes.fromhex(text)
+
+
+# What is printed in place of the answers, by the option that asks for it, whose argument it takes.
+BEHIND = {"behind": behind.behind, "behind_key": behind.behind_key, "strings": behind.strings}
+
+
 def parsed(parser):
     parser.add_argument("--edition", choices=("2010", "2003"))
     parser.add_argument("--header", choices=("2", "1"))
     parser.add_argument("--blank", choices=("taken", "refused"))
-    parser.add_argument("--compare", metavar="ANSWERS")
+    instead = parser.add_mutually_exclusive_group()
+    instead.add_argument("--compare", metavar="ANSWERS")
+    instead.add_argument("--behind", metavar="N", type=reseed_number)
+    instead.add_argument("--behind-key", metavar="HEX", type=whole_bytes)
+    instead.add_argument("--strings", metavar="N", type=reseed_number)
     parser.add_argument("file", nargs="?")
     chosen = parser.parse_args()
     if chosen.compare is not None and (chosen.edition or chosen.header or chosen.blank):
@@ -144,13 +180,25 @@ def chosen_kind(chosen):
     return Kind(edition, chosen.header or "2", chosen.blank or SEEDS[edition])
 
 
+def texts(log, book, chosen):
+    """What the chosen option prints, a line each."""
+    for option, tell in BEHIND.items():
+        if (asked := getattr(chosen, option)) is not None:
+            return (text.encode() + b"\n" for text in tell(log, book, asked))
+    return answers(log, book)
+
+
 def work(parser, chosen):
     """The exit status."""
     with parser.opened_or_standard_input(chosen.file) as log:
         if chosen.compare is not None:
             with parser.opened(chosen.compare) as stored:
                 return compare(log, stored)
-        sys.stdout.buffer.writelines(answers(log, KINDS[chosen_kind(chosen)]()))
+        try:
+            sys.stdout.buffer.writelines(texts(log, KINDS[chosen_kind(chosen)](), chosen))
+        except behind.NotThere as why:
+            parser.say(why)
+            return 1
     return 0
 
 
