@@ -11,15 +11,10 @@
    or reading or writing failed. */
 #define _POSIX_C_SOURCE 200809L
 #include "fortuna.h"
+#include "streams.h"
 
-#include <errno.h>
 #include <inttypes.h>
-#include <poll.h>
-#include <stdio.h>
-#include <stdlib.h>
-#include <string.h>
 #include <time.h>
-#include <unistd.h>
 
 /* A line becomes at most two characters longer. The shortest event, 6 characters, becomes 8: so 4/3 of a piece, rounded
    up, are always room enough, and FORTUNA_NO_ROOM does not come. */
@@ -29,50 +24,6 @@ enum { QUIET = 5, EVERY = 10 }; /* seconds before a terminal is told how far the
 
 static uint8_t piece[PIECE];
 static uint8_t out[ROOM];
-
-static _Noreturn void failed(const char *what)
-{
-    fprintf(stderr, "convert: %s: %s\n", what, strerror(errno));
-    exit(2);
-}
-
-/* ---- reading and writing */
-
-/* Whether a read or a write that failed is to be tried again: it was interrupted, or its stream does not wait, and is
-   waited for here. */
-static bool again(int stream, short until)
-{
-    if (errno == EINTR)
-        return true;
-    if (errno != EAGAIN && errno != EWOULDBLOCK)
-        return false;
-    struct pollfd waited = {.fd = stream, .events = until};
-    return poll(&waited, 1, -1) >= 0 || errno == EINTR;
-}
-
-/* How many bytes came, up to so many; 0 at the end of the log. */
-static size_t read_some(uint8_t *bytes, size_t most)
-{
-    ssize_t count;
-    while ((count = read(STDIN_FILENO, bytes, most)) < 0)
-        if (!again(STDIN_FILENO, POLLIN))
-            failed("standard input could not be read");
-    return (size_t)count;
-}
-
-static void write_all(const uint8_t *bytes, size_t length)
-{
-    while (length > 0) {
-        ssize_t count = write(STDOUT_FILENO, bytes, length);
-        if (count < 0) {
-            if (!again(STDOUT_FILENO, POLLOUT))
-                failed("standard output could not be written");
-            continue;
-        }
-        bytes += count;
-        length -= (size_t)count;
-    }
-}
 
 /* ---- how far the work is */
 
@@ -159,13 +110,13 @@ static void convert_log(bool wide)
 
 int main(int words, char **word)
 {
+    speaker = "convert";
     bool wide = words == 2 && strcmp(word[1], "05") == 0;
     if (!wide && (words != 2 || strcmp(word[1], "01") != 0)) {
         fprintf(stderr, "usage: convert 05|01 <LOG >CONVERTED\n");
         return 2;
     }
     convert_log(wide);
-    if (close(STDOUT_FILENO) != 0) /* some file systems tell only now that a write has failed */
-        failed("standard output could not be written");
+    end_output();
     return 0;
 }
