@@ -1,6 +1,6 @@
 """What the commands in bin/ build before they run: the bench program, and over the static library the health tests'
-program, one that makes calls with a list of quotas and one that converts call logs. rt proves whatever has changed;
-that takes minutes, and standard error says how far it is."""
+program, one that makes calls with a list of quotas, one that converts call logs and one that reads pools' strings. rt
+proves whatever has changed; that takes minutes, and standard error says how far it is."""
 import contextlib
 import fcntl
 import hashlib
@@ -21,7 +21,13 @@ ARCHIVE = TARGET / "staticlib" / f"lib{LIBRARY}.a"
 HEALTH = ROOT / "tests" / "c_interface" / "health.c"
 METERED = ROOT / "tests" / "bench" / "metered.c"
 CONVERT = ROOT / "examples" / "c" / "convert.c"
-LENT = ROOT / "tests" / "c_interface" / "lent.h"
+EVENTS = ROOT / "examples" / "c" / "events.c"
+# The headers that the drivers include.
+HEADERS = [
+    ROOT / "include" / "fortuna.h",
+    ROOT / "tests" / "c_interface" / "lent.h",
+    ROOT / "examples" / "c" / "streams.h",
+]
 QUIET = 5  # seconds after which a proof, or the wait for another command's, says how far it is
 EVERY = 10  # seconds from then on
 
@@ -171,8 +177,7 @@ def library_program(driver, name, verbose):
             make(ARCHIVE, sources_of_library(), lambda: ask_rt(name, verbose, "staticlib", LIBRARY, at_once=1))
         elif not ARCHIVE.is_file():
             raise NotBuilt(f"LIBRARY_BUILT is set, and there is no {ARCHIVE.relative_to(ROOT)}")
-        header = ROOT / "include" / "fortuna.h"
-        make(program, [ARCHIVE, header, driver, LENT], lambda: compile_driver(driver, program))
+        make(program, [ARCHIVE, driver, *HEADERS], lambda: compile_driver(driver, program))
     return program
 
 
@@ -186,3 +191,7 @@ def metered_program(name, verbose=False):
 
 def convert_program(name, verbose=False):
     return library_program(CONVERT, name, verbose)
+
+
+def events_program(name, verbose=False):
+    return library_program(EVENTS, name, verbose)
