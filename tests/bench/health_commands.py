@@ -256,12 +256,14 @@ def builds(folder):
 def ends_with_rt(folder):
     """A signal that ends a command while rt runs ends rt too, and nothing is said."""
     copy = copied(folder)
-    bench, checklist, convert = (str(copy / "bin" / name) for name in ("bench", "checklist", "convert"))
+    names = ("bench", "checklist", "convert", "events")
+    bench, checklist, convert, events = (str(copy / "bin" / name) for name in names)
     played, given = with_rt(folder, LONG_RT)
     for words in (
         one_reading(copy, folder),
         [bench, "one.txt"],
         [convert, "--to", "05", "one.txt"],
+        [events, "one.txt"],
         [checklist, "may"],
         [checklist, "april", "--bench", "/bin/false"],
     ):
