@@ -161,7 +161,7 @@ def behind_random_logs(seed, folder):
 
 
 def told_by_hand(folder):
-    """Events of the pools that reseeds 1 and 2 use, by both frames, with refused ones between; a pool that is empty."""
+    """Events of the pools that reseeds 1 and 2 use, by both frames, with refused lines between them."""
     first = [event(7, 0, b"\xa1\xb2"), event(7, 32, b"\xa1"), wide_event(900, 0, bytes(32)), event(9, 1, b"\x05")]
     lines = [*first, event(8, 0, bytes(29)), request(0, 0), event(6, 2, b"\1"), event(5, 0, bytes(61)), b"0G"]
     lines += [event(255, 0, b"\xff" * 32), event(254, 0, b"\xfe" * 32), request(101, 4), event(3, 1, b"\2")]
@@ -179,6 +179,22 @@ def told_by_hand(folder):
     same("--strings 2 | events", tell(piped, folder, 0, None, env=TAKEN), without_lines(expected))
     expected = f"reseed 1, pool 0: 070002A1B2840320{'00' * 32}08001D{'00' * 29}\n"
     same("--strings 1", tell([LOGBOOK, "--strings=1", "some.log"], folder, 0, None), expected)
+
+
+def reads_no_further(folder):
+    """Behind the reseed, or the answer, that is asked for a log may have no end."""
+    lines = [event(7, 0, bytes(32)), event(8, 0, bytes(32)), request(0, 8)]
+    (folder / "some.log").write_bytes(log_of(lines))
+    key = answers_to(log_of(lines)).split()[-1].decode()
+    rest = log_of([event(9, 0, bytes(32)), request(0, 8)]).decode().strip()
+    endless = '{ cat some.log; yes "$REST"; } | "$@"'
+    expected = [f"line {n}: reseed 1, pool 0, order {n}, source {n + 6}, data {'00' * 32}\n" for n in (1, 2)]
+    for words, count in ((["--behind", "1"], 2), (["--behind-key", key], 3), (["--strings", "1"], 1)):
+        words = ["sh", "-c", endless, "sh", LOGBOOK, *words]
+        found = tell(words, folder, 0, None, env={**os.environ, "REST": rest})
+        same(words, len(found.splitlines()), count)
+        if count > 1:
+            same(words, found.splitlines(keepends=True)[-2:], expected)
 
 
 def empty_log(folder):
@@ -435,8 +451,9 @@ def checks(seed):
     any_logs = partial(behind_random_logs, seed)
     any_logs.__name__ = behind_random_logs.__name__
     return (
-        *(behind_stored_logs, any_logs, told_by_hand, empty_log, key_search, broken_strings, megabytes, other_forms),
-        *(slow_and_interrupted, ways_to_name_it, refuses, helps, failing_streams, closed_pipe, builds, logbook_alone),
+        *(behind_stored_logs, any_logs, told_by_hand, reads_no_further, empty_log, key_search),
+        *(broken_strings, megabytes, other_forms, slow_and_interrupted, ways_to_name_it, refuses, helps),
+        *(failing_streams, closed_pipe, builds, logbook_alone),
     )
 
 
