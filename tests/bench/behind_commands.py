@@ -258,8 +258,8 @@ def key_search(folder):
 
 
 def in_words(first, string):
-    """What bin/events must print for a string, the status, and what it must say. first is what stands before the
-    colon."""
+    """What bin/events must print for a string, and the place that comes to 44, if one does. first is what stands before
+    the colon."""
     events, number, place = read(string)
     lines = [f"{first}, order {k}, source {e.source}, data {e.data.hex().upper()}\n" for k, e in enumerate(events, 1)]
     return "".join(lines), place if number else None
