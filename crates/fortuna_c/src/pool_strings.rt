@@ -1,8 +1,9 @@
 // The events behind a pool's byte string.
 use history::Answer;
 use history::entry_at;
+ghost use mathlib.Core.Path.{_≡_};
 ghost use Rattle.history.specs.Reader.{entryAt};
-ghost use Rattle.fortuna_c.specs.PoolStrings.{TellsEntry};
+ghost use Rattle.fortuna_c.specs.PoolStrings.{entryOf};
 
 // 0 or 44; the event's source; whether an event was found; the place that was asked for; where the event's data start, and the next place.
 // Where no event was found the source is 0, and the data start and the next place are the place asked for.
@@ -18,7 +19,7 @@ pub struct FortunaEntry {
 
 // An answer as C takes it.
 fn entry_of(answer: Answer, place: usize) -> FortunaEntry
-    ensures { λ r. ⌜ TellsEntry place answer r ⌝ }
+    ensures { λ r. ⌜ r ≡ entryOf place answer ⌝ }
 {
     let number = answer.number();
     match answer {
@@ -51,7 +52,7 @@ fn entry_of(answer: Answer, place: usize) -> FortunaEntry
 
 #[no_mangle]
 pub extern "C" fn fortuna_entry_at(string: &[u8], place: usize) -> FortunaEntry
-    ensures { λ r. ⌜ TellsEntry place (entryAt (now (string .entry)) place) r ⌝ }
+    ensures { λ r. ⌜ r ≡ entryOf place (entryAt (now (string .entry)) place) ⌝ }
 {
     entry_of(entry_at(string, place), place)
 }

@@ -1,6 +1,6 @@
 -- The events behind a key are those whose bytes enter it, as demand 3 has it.
 -- Assumes nothing.
-use mathlib.Core.Path.{_≡_, refl, sym, ap, ap₂, subst, _∙_}
+use mathlib.Core.Path.{_≡_, refl, sym, ap, subst, _∙_}
 use mathlib.Core.Bool.{Bool, true, false, cond, _&&_}
 use mathlib.Core.Logic.{_↔_, ⊎-elim}
 use mathlib.Core.List.{List, [], _∷_, _++_, map, List·Memᴰ, List·Memᴰ·head, List·Memᴰ·tail, List·Memᴰ·not-nil, List·Memᴰ·cases-cons}
@@ -11,11 +11,9 @@ use lib.ListN.{length}
 use borrow.Author.Tests.{eqb-true, eqb-false, eq-eqb}
 use Rattle.laws.specs.Lists.{joined}
 use Rattle.laws.proofs.Cases.{by-test, both, split}
-use Rattle.hash.specs.ShaD.{D}
-use Rattle.generator.specs.Steps.{decode, encode, reseed}
 use Rattle.pools.specs.Schedule.{usedPools}
-use Rattle.pools.specs.Calls.{Call, event, readingOf}
-use Rattle.quotas.specs.Entries.{Quotas, Entry, taking, entryNumber, entryStep}
+use Rattle.pools.specs.Calls.{Call, event}
+use Rattle.quotas.specs.Entries.{Quotas, Entry, taking, entryNumber}
 use Rattle.reference.specs.Runs.{stateAfter}
 use Rattle.reference.specs.Timer.{reseedsAfter}
 use Rattle.reference.specs.Reference.{Accepted, scheduledReseed, referenceAfter}

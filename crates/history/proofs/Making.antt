@@ -1,8 +1,8 @@
 -- Each reseed that a run has made was made by one call of it; and the strings tell how many there were.
 -- Assumes nothing.
 use mathlib.Core.Path.{_≡_, refl, sym, ap, subst, _∙_}
-use mathlib.Core.Bool.{Bool, true, false, cond, true≢false}
-use mathlib.Core.Logic.{_↔_, _⊎_, inl, inr, ⊎-elim}
+use mathlib.Core.Bool.{Bool, true, false, cond}
+use mathlib.Core.Logic.{_↔_}
 use mathlib.Core.List.{List, [], _∷_, _++_, map, append-assoc, append-nil}
 use Prim.Native.Nat.{ℕ, _+_, _≤_, _<_}
 use native.Mathlib.Omega.{arith}
@@ -40,10 +40,12 @@ found n (c ∷ later) front h k =
     (λ t.
     let whole = append-assoc front (c ∷ []) later in
     subst (λ (l : List Entry). Makes l n) whole
-    (found n later (front ++ (c ∷ [])) (leb-false n (reseedsAfter (front ++ (c ∷ []))) t) (subst (λ (l : List Entry). n ≤ reseedsAfter l) (sym whole) k)))
+    (found n later (front ++ (c ∷ [])) (leb-false n (reseedsAfter (front ++ (c ∷ []))) t)
+    (subst (λ (l : List Entry). n ≤ reseedsAfter l) (sym whole) k)))
   where
     makes-now : (b : Bool) → ltb 0 (entryStep (stateAfter front) c .effect .emptied) ≡ b
-        → reseedsAfter (front ++ (c ∷ [])) ≡ reseedsAfter front + cond b 1 0 → n ≤ reseedsAfter (front ++ (c ∷ [])) → Makes (front ++ (c ∷ later)) n
+        → reseedsAfter (front ++ (c ∷ [])) ≡ reseedsAfter front + cond b 1 0 → n ≤ reseedsAfter (front ++ (c ∷ []))
+        → Makes (front ++ (c ∷ later)) n
     makes-now true e r there =
         record { before = front; call = c; later = later; whole = refl; empties = ltb-true 0 _ e; number = omega arith }
     makes-now false e r there = absurd (omega arith)
@@ -59,7 +61,8 @@ module _ (calls : List Entry) (n : ℕ) where
       let front = m .before ++ (m .call ∷ []) in
       let more : reseedsAfter front ≡ reseedsAfter (m .before) + 1 =
       reseeds-more (m .before) (m .call) ∙ ap (λ (b : Bool). reseedsAfter (m .before) + cond b 1 0) (lt-ltb 0 _ (m .empties)) in
-      let whole : reseedsAfter (front ++ m .later) ≡ reseedsAfter calls = ap reseedsAfter (append-assoc (m .before) (m .call ∷ []) (m .later) ∙ m .whole) in
+      let whole : reseedsAfter (front ++ m .later) ≡ reseedsAfter calls =
+      ap reseedsAfter (append-assoc (m .before) (m .call ∷ []) (m .later) ∙ m .whole) in
       made-by calls n (omega (arith, m .number)) (omega (arith, m .number, more, whole, reseeds-later (m .later) front))
 
   pub makes-are : (made calls n ≡ true) ↔ Makes calls n

@@ -22,7 +22,7 @@ use Rattle.reference.specs.Provenance.{PoolUse, erased, traced, scheduledUse, s
 use Rattle.reference.proofs.Tracing.{erased-map, run-tied}
 use Rattle.reference.proofs.Provenance.{same-reseeds}
 use Rattle.reference.proofs.Correct.{run-correct}
-use Rattle.history.specs.Strings.{Event, stringOf}
+use Rattle.history.specs.Strings.{stringOf}
 use Rattle.history.specs.Reader.{History, history}
 use Rattle.history.specs.Runs.{acceptedFrom, bookedFor, waitingIn, Entered, made, enteredAt, usesOf, stringsAt, stringIn, readInto, workedOut}
 use Rattle.history.specs.RunStatements.{SameStrings, HeldLaw}
@@ -162,7 +162,9 @@ module _ (calls : List Entry) (n : ℕ) where
   abbrev numbersOf : List (List ℕ) → List ℕ
   numbersOf strings = map (λ s. history s .number) strings
 
-  read-whole : (l : List ℕ) → numbersOf (map (λ x. stringOf (x .events)) (map through l)) ≡ map (λ s. 0) (map (λ x. stringOf (x .events)) (map through l))
+  read-whole :
+      (l : List ℕ) →
+      numbersOf (map (λ x. stringOf (x .events)) (map through l)) ≡ map (λ s. 0) (map (λ x. stringOf (x .events)) (map through l))
   read-whole [] = refl
   read-whole (i ∷ l) = ap₂ (λ (x : History) (y : List ℕ). x .number ∷ y) (read-through i) (read-whole l)
 

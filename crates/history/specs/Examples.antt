@@ -1,16 +1,17 @@
 -- Rows worked out by the definitions: the edges of what a whole event is, of the end, and of the schedule.
 -- Assumes nothing.
 use mathlib.Core.Path.{_≡_}
-use mathlib.Core.Bool.{true}
+use mathlib.Core.Bool.{true, false}
 use mathlib.Core.List.{List, [], _∷_, _++_, map}
-use Prim.Native.Nat.{ℕ}
+use Prim.Native.Nat.{ℕ, _-_, _^_}
 use lib.Dec.{eqb}
 use lib.ListN.{take, replicate}
 use Rattle.pools.specs.Calls.{event, request, update, write, draw, shuffle}
 use Rattle.reference.specs.Provenance.{PoolUse}
 use Rattle.history.specs.Strings.{Event, stringOf}
 use Rattle.history.specs.Reader.{entryAt, dataAt, number, history}
-use Rattle.history.specs.Runs.{bookedEvent, usesOf, workedOut}
+use Rattle.quotas.specs.Entries.{without, Entry, taking}
+use Rattle.history.specs.Runs.{bookedEvent, waitingIn, made, enteredAt, usesOf, stringsAt, stringIn, workedOut}
 use Rattle.history.specs.declared.answer.Answer.the-variants.{Found, End, NoEvent}
 
 -- 01's event and one of source 900: 07 00 02 A1 B2, 84 03 01 05
@@ -34,23 +35,31 @@ PlacesRow =
     ≡ Found 7 3 5 ∷ NoEvent 1 ∷ NoEvent 2 ∷ NoEvent 3 ∷ NoEvent 4
     ∷ Found 900 8 9 ∷ NoEvent 6 ∷ NoEvent 7 ∷ NoEvent 8 ∷ End ∷ NoEvent 10 ∷ []
 
--- their data, and none elsewhere
+-- their data, and none elsewhere; of 32 bytes all, and nothing of none, of 33 or of 32 with the last one missing
 abbrev pub DataRow : Type 0
 DataRow =
     map (dataAt twoString) (0 ∷ 1 ∷ 2 ∷ 3 ∷ 4 ∷ 5 ∷ 6 ∷ 7 ∷ 8 ∷ 9 ∷ 10 ∷ [])
     ≡ (161 ∷ 178 ∷ []) ∷ [] ∷ [] ∷ [] ∷ [] ∷ (5 ∷ []) ∷ [] ∷ [] ∷ [] ∷ [] ∷ [] ∷ []
 
+abbrev pub DataSizesRow : Type 0
+DataSizesRow =
+    map (λ string. dataAt string 0)
+    ((7 ∷ 0 ∷ 32 ∷ replicate 33 9) ∷ (7 ∷ 0 ∷ 0 ∷ 9 ∷ []) ∷ (7 ∷ 0 ∷ 33 ∷ replicate 33 9)
+    ∷ (7 ∷ 0 ∷ 32 ∷ replicate 31 9) ∷ [])
+    ≡ replicate 32 9 ∷ [] ∷ [] ∷ [] ∷ []
+
 -- an event starts at any place whose bytes are those of one: also inside another event's data
 abbrev pub InsideRow : Type 0
 InsideRow = map (entryAt (7 ∷ 0 ∷ 4 ∷ 1 ∷ 2 ∷ 1 ∷ 9 ∷ [])) (0 ∷ 3 ∷ 7 ∷ []) ≡ Found 7 3 7 ∷ Found 513 6 7 ∷ End ∷ []
 
--- the empty string; no byte, 1 byte, 32 and 33 bytes of data
+-- the empty string; no byte, 1 byte, 32, 33 and 255 bytes of data; 32 with the last one missing
 abbrev pub SizesRow : Type 0
 SizesRow =
     map (λ string. entryAt string 0)
     (([]) ∷ (7 ∷ 0 ∷ 0 ∷ []) ∷ (7 ∷ 0 ∷ 0 ∷ 9 ∷ []) ∷ (7 ∷ 0 ∷ 1 ∷ 9 ∷ [])
-    ∷ (7 ∷ 0 ∷ 32 ∷ replicate 32 9) ∷ (7 ∷ 0 ∷ 33 ∷ replicate 33 9) ∷ [])
-    ≡ End ∷ NoEvent 0 ∷ NoEvent 0 ∷ Found 7 3 4 ∷ Found 7 3 35 ∷ NoEvent 0 ∷ []
+    ∷ (7 ∷ 0 ∷ 32 ∷ replicate 32 9) ∷ (7 ∷ 0 ∷ 33 ∷ replicate 33 9) ∷ (7 ∷ 0 ∷ 255 ∷ replicate 255 9)
+    ∷ (7 ∷ 0 ∷ 32 ∷ replicate 31 9) ∷ [])
+    ≡ End ∷ NoEvent 0 ∷ NoEvent 0 ∷ Found 7 3 4 ∷ Found 7 3 35 ∷ NoEvent 0 ∷ NoEvent 0 ∷ NoEvent 0 ∷ []
 
 -- an event with its last bytes cut off is none; a byte more belongs to what comes next
 abbrev pub CutsRow : Type 0
@@ -65,9 +74,9 @@ SourcesRow =
     ((0 ∷ 0 ∷ 1 ∷ 9 ∷ []) ∷ (255 ∷ 0 ∷ 1 ∷ 9 ∷ []) ∷ (0 ∷ 1 ∷ 1 ∷ 9 ∷ []) ∷ (255 ∷ 255 ∷ 1 ∷ 9 ∷ []) ∷ [])
     ≡ Found 0 3 4 ∷ Found 255 3 4 ∷ Found 256 3 4 ∷ Found 65535 3 4 ∷ []
 
--- the place after the last byte is the end, the next one 44
-abbrev pub EndsRow : Type 0
-EndsRow = map (entryAt []) (0 ∷ 1 ∷ 2 ∷ []) ≡ End ∷ NoEvent 1 ∷ NoEvent 2 ∷ []
+-- past the end, up to the last place that there is: 44
+abbrev pub PastRow : Type 0
+PastRow = map (entryAt twoString) (11 ∷ 2 ^ 63 ∷ (2 ^ 64 - 1) ∷ []) ≡ NoEvent 11 ∷ NoEvent (2 ^ 63) ∷ NoEvent (2 ^ 64 - 1) ∷ []
 
 abbrev pub NumbersRow : Type 0
 NumbersRow = map number (Found 7 3 5 ∷ End ∷ NoEvent 9 ∷ []) ≡ 0 ∷ 0 ∷ 44 ∷ []
@@ -82,20 +91,24 @@ abbrev pub BrokenRow : Type 0
 BrokenRow =
     (history (take 8 twoString) ≡ record { events = take 1 twoEvents; number = 44; place = 5 })
     × (history (twoString ++ (1 ∷ [])) ≡ record { events = twoEvents; number = 44; place = 9 })
+    × (history (twoString ++ (7 ∷ 0 ∷ 33 ∷ replicate 33 9)) ≡ record { events = twoEvents; number = 44; place = 9 })
     × (history (1 ∷ []) ≡ record { events = []; number = 44; place = 0 })
 
 -- ---- runs
 
--- an event of pool 3 is booked for reseed 8 as long as 7 reseeds were made, then for 16; of another pool it is nothing
 abbrev pub seven : Event
 seven = record { source = 7; content = 9 ∷ [] }
 
+-- an event of pool 3 is booked for reseed 8 as long as 7 reseeds were made, then for 16; of pool 0 for the next, of pool 31 for 2^31; of
+-- another pool it is nothing
 abbrev pub BookingsRow : Type 0
 BookingsRow =
     (map (λ r. bookedEvent (λ k. eqb k 8) 3 r (event 7 3 (9 ∷ []))) (0 ∷ 7 ∷ 8 ∷ 15 ∷ [])
     ≡ (seven ∷ []) ∷ (seven ∷ []) ∷ [] ∷ [] ∷ [])
     × (map (λ r. bookedEvent (λ k. eqb k 16) 3 r (event 7 3 (9 ∷ []))) (0 ∷ 7 ∷ 8 ∷ 15 ∷ [])
     ≡ [] ∷ [] ∷ (seven ∷ []) ∷ (seven ∷ []) ∷ [])
+    × (bookedEvent (λ k. eqb k 6) 0 5 (event 7 0 (9 ∷ [])) ≡ seven ∷ [])
+    × (bookedEvent (λ k. eqb k (2 ^ 31)) 31 5 (event 7 31 (9 ∷ [])) ≡ seven ∷ [])
     × (bookedEvent (λ k. true) 2 0 (event 7 3 (9 ∷ [])) ≡ [])
 
 -- no other call is an event
@@ -104,9 +117,9 @@ OthersRow =
     map (bookedEvent (λ k. true) 0 0) (request 0 [] ∷ update 0 [] ∷ write 0 [] ∷ draw 0 1 1 ∷ shuffle 0 [] ∷ [])
     ≡ [] ∷ [] ∷ [] ∷ [] ∷ [] ∷ []
 
--- the uses of one reseed, in their order
+-- the uses of one reseed, in their order and with their pieces
 abbrev pub useAt : ℕ → ℕ → PoolUse
-useAt n i = record { reseedNumber = n; pool = i; pieces = [] }
+useAt n i = record { reseedNumber = n; pool = i; pieces = record { place = n; bytes = i ∷ [] } ∷ [] }
 
 abbrev pub UsesRow : Type 0
 UsesRow = usesOf 2 (useAt 1 0 ∷ useAt 2 0 ∷ useAt 2 1 ∷ useAt 3 0 ∷ []) ≡ useAt 2 0 ∷ useAt 2 1 ∷ []
@@ -118,15 +131,40 @@ WorkedRow =
     ≡ record { pool = 0; events = twoEvents } ∷ record { pool = 1; events = [] } ∷ record { pool = 2; events = take 1 twoEvents } ∷ [])
     × (workedOut 3 (twoString ∷ []) ≡ record { pool = 0; events = twoEvents } ∷ []) × (workedOut 4 [] ≡ [])
 
+-- a run: two events that make pool 0 due, a refused one between them, the first once more, one that waits in pool 1, and a request, which
+-- makes the first reseed
+abbrev pub long : ℕ → Event
+long x = record { source = x; content = replicate 32 9 }
+
+abbrev pub firstReseed : List Entry
+firstReseed =
+    map (taking without)
+    (event 7 0 (replicate 32 9) ∷ event 65536 0 (9 ∷ []) ∷ event 900 0 (replicate 32 9) ∷ event 7 0 (replicate 32 9) ∷ event 7 1 (9 ∷ [])
+    ∷ request 0 [] ∷ [])
+
+-- what had entered at reseeds 0, 1 and 2, and what waits in the pools 0 to 2
+abbrev pub EnteredRow : Type 0
+EnteredRow =
+    (map (enteredAt firstReseed) (0 ∷ 1 ∷ 2 ∷ []) ≡ [] ∷ (record { pool = 0; events = long 7 ∷ long 900 ∷ long 7 ∷ [] } ∷ []) ∷ [] ∷ [])
+    × (map (waitingIn firstReseed) (0 ∷ 1 ∷ 2 ∷ []) ≡ [] ∷ (seven ∷ []) ∷ [] ∷ [])
+    × (map (made firstReseed) (0 ∷ 1 ∷ 2 ∷ []) ≡ false ∷ true ∷ false ∷ [])
+
+-- the strings that were used, and those that the pools hold
+abbrev pub UsedRow : Type 0
+UsedRow =
+    (map (stringsAt firstReseed) (0 ∷ 1 ∷ 2 ∷ []) ≡ [] ∷ (stringOf (long 7 ∷ long 900 ∷ long 7 ∷ []) ∷ []) ∷ [] ∷ [])
+    × (map (stringIn firstReseed) (0 ∷ 1 ∷ 2 ∷ []) ≡ [] ∷ stringOf (seven ∷ []) ∷ [] ∷ [])
+
 pub record Examples : Type 0 where
   pub strings : StringsRow
   pub places : PlacesRow
   pub content : DataRow
+  pub dataSizes : DataSizesRow
   pub inside : InsideRow
   pub sizes : SizesRow
   pub cuts : CutsRow
   pub sources : SourcesRow
-  pub ends : EndsRow
+  pub past : PastRow
   pub numbers : NumbersRow
   pub whole : HistoryRow
   pub broken : BrokenRow
@@ -134,3 +172,5 @@ pub record Examples : Type 0 where
   pub others : OthersRow
   pub uses : UsesRow
   pub worked : WorkedRow
+  pub entered : EnteredRow
+  pub used : UsedRow

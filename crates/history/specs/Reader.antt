@@ -66,11 +66,11 @@ thenRead string (Found source from next) rest =
 thenRead string End rest = record { events = []; number = 0; place = length string }
 thenRead string (NoEvent place) rest = record { events = []; number = 44; place = place }
 
--- at most n steps
+-- at most n steps, and 44 where they are not enough
 unfoldable pub historyFrom : ℕ → List ℕ → ℕ → History
 historyFrom zero string place = record { events = []; number = 44; place = place }
 historyFrom (suc n) string place = thenRead string (entryAt string place) (historyFrom n string)
 
--- a whole string, read from 0; an event takes 4 bytes or more, so the string ends before the steps do
+-- a whole string, read from 0; an event takes 4 bytes or more, so the string ends before the steps do (`stops` of HistoryLaw)
 unfoldable pub history : List ℕ → History
 history string = historyFrom (length string + 1) string 0

@@ -15,7 +15,8 @@ use Rattle.history.specs.Reader.{history}
 
 -- ---- the events of the calls
 
--- the event of a call, if it is one of pool i and its reseed passes a test: 01 books it, r reseeds made, for 2^i × (floor(r / 2^i) + 1)
+-- the event of a call, if it is one of pool i and the reseed that it is booked for passes a test: with r reseeds made before it, 01 books it
+-- for 2^i × (floor(r / 2^i) + 1)
 unfoldable pub bookedEvent : (ℕ → Bool) → ℕ → ℕ → Call → List Event
 bookedEvent test i r (event source pool content) =
     cond (eqb pool i && test (2 ^ pool * (r / 2 ^ pool + 1))) (record { source = source; content = content } ∷ []) []
@@ -59,21 +60,22 @@ enteredAt calls n = cond (made calls n) (map (λ i. record { pool = i; events = 
 
 -- ---- the strings
 
+-- the uses of reseed n, in their order
 unfoldable pub usesOf : ℕ → List PoolUse → List PoolUse
 usesOf n [] = []
 usesOf n (u ∷ us) = cond (eqb (u .reseedNumber) n) (u ∷ usesOf n us) (usesOf n us)
 
--- those that reseed n used, in the order of use: bytes alone, without a pool and without the place of a call
+-- the strings that reseed n used, in the order of use: bytes alone, without a pool and without the place of a call
 unfoldable pub stringsAt : List Entry → ℕ → List (List ℕ)
 stringsAt calls n = map (λ u. erased (u .pieces)) (usesOf n (traced calls .uses))
 
--- the one that pool i holds
+-- the string that pool i holds
 unfoldable pub stringIn : List Entry → ℕ → List ℕ
 stringIn calls i = erased (traced calls .pieces i)
 
 -- ---- worked out from the strings and the schedule alone
 
--- each pool with the events that its string is read as
+-- each pool with the events that its string is read as, as far as pools and strings go
 unfoldable pub readInto : List ℕ → List (List ℕ) → List Entered
 readInto [] strings = []
 readInto (i ∷ pools) [] = []

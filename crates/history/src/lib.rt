@@ -28,7 +28,7 @@ fn source_at(string: &[u8], place: usize) -> u32
     wide32(string[place]) + 256 * wide32(string[place + 1])
 }
 
-// How many bytes of data the whole event at a place has; 0 where none starts there.
+// How many bytes of data the whole event at a place has; 0 where none starts there. Before its data, 1 to 32 bytes, stand 3 others.
 fn size_at(string: &[u8], place: usize) -> usize
     ensures { λ r. ⌜ r ≡ sizeAt (now (string .entry)) place ⌝ }
 {

@@ -1,8 +1,7 @@
 -- `fortuna_c::pool_strings::fortuna_entry_at` meets its contract.
 -- Assumes nothing.
-use mathlib.Core.Path.{subst}
-use Rattle.history.specs.declared.answer.Answer.{Answer}
-use Rattle.fortuna_c.specs.PoolStrings.{TellsEntry}
+use mathlib.Core.Path.{ap, _∙_}
+use Rattle.fortuna_c.specs.PoolStrings.{entryOf}
 use borrow.Author.Needs.{needs}
 use Rattle.fortuna_c.proofs.pool_strings.fortuna_entry_at.Statement.{statement}
 use Rattle.fortuna_c.proofs.pool_strings.fortuna_entry_at.Tie as tie
@@ -17,7 +16,7 @@ returns : tie.Need-returns
 returns c =
     let read = c .before in
     let a = read .before .before .args in
-    subst (λ (x : Answer). TellsEntry (a .place) x (c .entry-of .result)) (read .entry-at .ensures) (c .entry-of .ensures)
+    c .entry-of .ensures ∙ ap (entryOf (a .place)) (read .entry-at .ensures)
 
 pub fortuna-entry-at-spec : {M : Type 1} → statement M
 fortuna-entry-at-spec = tie.close (tie.spec entry-at-requires entry-of-requires returns)
