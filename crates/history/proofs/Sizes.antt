@@ -84,13 +84,13 @@ module _ (string : List ℕ) (place : ℕ) where
   entry-nothing n l e z = rw (ne-eqb place (length string) l, size-none (sym e ∙ z))
 
   pub entry-found :
-      (n source : ℕ) → (place ≡ length string → ⊥) → n ≡ sizeAt string place → (n ≡ 0 → ⊥) → source ≡ sourceAt string place →
-      Found source (place + 3) (place + 3 + n) ≡ entryAt string place
+      (n source from next : ℕ) → (place ≡ length string → ⊥) → n ≡ sizeAt string place → (n ≡ 0 → ⊥) → source ≡ sourceAt string place →
+      from ≡ place + 3 → next ≡ place + 3 + n → Found source from next ≡ entryAt string place
   unfolding entryAt gain headerLength
-  entry-found n source l e h q =
+  entry-found n source from next l e h q f g =
       let s = size-some (λ z. h (e ∙ z)) in
-      let k : place + (3 + lengthAt string place) ≡ place + 3 + n = omega (arith, s .1) in
-      rw (ne-eqb place (length string) l, s .0, q, k)
+      let k : place + (3 + lengthAt string place) ≡ next = omega (arith, s .1) in
+      rw (ne-eqb place (length string) l, s .0, q, f, k)
 
   pub data-nothing : (n : ℕ) → n ≡ sizeAt string place → n ≡ 0 → [] ≡ dataAt string place
   unfolding dataAt

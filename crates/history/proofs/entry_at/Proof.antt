@@ -34,7 +34,7 @@ returns-3 c =
     let whole = c .before in
     let sized = whole .before in
     let inside = sized .before in
-    entry-found _ _ _ _ (inside .if1 .left) (sized .size-at .ensures) (whole .if2 .left) (c .source-at .ensures)
+    entry-found _ _ _ _ _ _ (inside .if1 .left) (sized .size-at .ensures) (whole .if2 .left) (c .source-at .ensures) (omega arith) (omega arith)
 
 pub entry-at-spec : {M : Type 1} → statement M
 entry-at-spec =

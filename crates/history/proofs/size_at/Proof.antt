@@ -1,5 +1,6 @@
 -- `history::size_at` meets its contract.
 -- Assumes nothing.
+use native.Mathlib.Omega.{arith}
 use Rattle.history.specs.Reader.{lengthAt}
 use Rattle.history.proofs.Sizes.{size-short, size-late, size-large, size-cut, size-whole}
 use borrow.Author.Needs.{needs}
@@ -7,10 +8,10 @@ use Rattle.history.proofs.size_at.Statement.{statement}
 use Rattle.history.proofs.size_at.Tie as tie
 
 returns : tie.Need-returns
-returns c = size-short _ _ (c .if1 .taken)
+returns c = size-short _ _ (omega (arith, c .if1 .taken))
 
 returns-2 : tie.Need-returns-2
-returns-2 c = size-late _ _ (c .if2 .taken)
+returns-2 c = size-late _ _ (omega (arith, c .if2 .taken))
 
 add-wide : tie.Need-add-wide
 add-wide c = search needs
@@ -23,7 +24,7 @@ wide-requires c κs = search needs
 
 returns-3 : tie.Need-returns-3
 unfolding lengthAt
-returns-3 c = size-large _ _ _ (c .before .wide .ensures) (c .if3 .taken)
+returns-3 c = size-large _ _ _ (c .before .wide .ensures) (omega (arith, c .if3 .taken))
 
 sub-if4 : tie.Need-sub-if4
 sub-if4 c = search needs
@@ -33,7 +34,7 @@ sub-if4-2 c = search needs
 
 returns-4 : tie.Need-returns-4
 unfolding lengthAt
-returns-4 c = size-cut _ _ _ (c .before .before .wide .ensures) (c .if4 .taken)
+returns-4 c = size-cut _ _ _ (c .before .before .wide .ensures) (omega (arith, c .if4 .taken))
 
 returns-5 : tie.Need-returns-5
 unfolding lengthAt
@@ -42,7 +43,8 @@ returns-5 c =
     let read = small .before in
     let inside = read .before .before in
     let long = inside .before in
-    size-whole _ _ _ (read .wide .ensures) (long .if1 .left) (inside .if2 .left) (small .if3 .left) (c .if4 .left)
+    size-whole _ _ _ (read .wide .ensures) (omega (arith, long .if1 .left)) (omega (arith, inside .if2 .left))
+    (omega (arith, small .if3 .left)) (omega (arith, c .if4 .left))
 
 pub size-at-spec : {M : Type 1} → statement M
 size-at-spec =

@@ -26,7 +26,9 @@ mul-result : tie.Need-mul-result
 mul-result c =
     let read = c .before in
     let start = read .before .before .before .before in
-    omega (arith, read .shared-slice-known3 .given (start .args .place + 1))
+    let known = read .shared-slice-known3 .given in
+    let place = start .args .place in
+    omega (arith, known place, known (place + 1))
 
 add-result : tie.Need-add-result
 add-result c =
