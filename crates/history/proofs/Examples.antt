@@ -2,9 +2,10 @@
 -- Assumes nothing.
 use mathlib.Core.Path.{refl}
 use Rattle.laws.specs.Lists.{joined}
-use Rattle.pools.specs.Events.{poolCount, maxSource, maxData, header, headerLength, eventBytes, gain}
+use Rattle.generator.specs.Steps.{reseed, generateBlocks, blockData, pseudoRandomData}
+use Rattle.pools.specs.Events.{poolCount, maxData, header, headerLength, eventBytes, gain}
 use Rattle.pools.specs.Schedule.{used, usedBelow, usedPools}
-use Rattle.pools.specs.State.{fresh}
+use Rattle.pools.specs.Effects.{emptiedPools}
 use Rattle.pools.specs.Calls.{inputNumber, stateNumber, runFrom, stateFrom}
 use Rattle.quotas.specs.Entries.{listNumber, entryNumber, entryStep}
 use Rattle.reference.specs.Runs.{run, stateAfter}
@@ -14,22 +15,27 @@ use Rattle.reference.proofs.Computing.{answering, adding, emptying}
 use Rattle.history.specs.Strings.{bytesOf, stringOf}
 use Rattle.history.specs.Reader.{sourceAt, lengthAt, wholeAt, sizeAt, dataAt, entryAt, number, foundEvent, thenRead, historyFrom, history}
 use Rattle.history.specs.Runs.{bookedEvent, acceptedEvent, acceptedFrom, bookedFor, waitingIn, made, enteredAt, usesOf, stringsAt, stringIn, readInto, workedOut}
-use Rattle.history.specs.Examples.{EnteredRow, UsedRow, Examples}
+use Rattle.history.specs.RunStatements.{eventsInto}
+use Rattle.history.specs.Examples.{Examples}
 
--- ---- runs
+-- the station's steps, without the cipher
+stepping : Unit {0}
+unfolding answering adding emptying emptiedPools reseed generateBlocks blockData pseudoRandomData
+    inputNumber stateNumber listNumber entryNumber entryStep runFrom stateFrom run stateAfter poolReseeds reseedsAfter requests
+stepping = tt
 
-entered-row : EnteredRow
-unfolding answering adding emptying joined poolCount maxSource maxData header headerLength eventBytes gain used usedBelow usedPools fresh inputNumber stateNumber runFrom stateFrom listNumber entryNumber entryStep run stateAfter poolReseeds reseedsAfter requests bookedEvent acceptedEvent acceptedFrom bookedFor waitingIn made enteredAt
-entered-row = (refl, refl, refl)
+-- the strings beside it
+tracing : Unit {0}
+unfolding erased tracedFresh dueFor putsInto useOf nextUses tracedReseed tracedAccepted tracedStep tracedFrom traced
+tracing = tt
 
-used-row : UsedRow
-unfolding answering adding emptying joined poolCount maxSource maxData header headerLength eventBytes gain used usedBelow usedPools fresh inputNumber stateNumber runFrom stateFrom listNumber entryNumber entryStep run stateAfter requests erased tracedFresh dueFor putsInto useOf nextUses tracedReseed tracedAccepted tracedStep tracedFrom traced bytesOf stringOf usesOf stringsAt stringIn
-used-row = (refl, refl)
-
--- ---- all rows
+-- what the calls put into each pool
+booking : Unit {0}
+unfolding bookedEvent acceptedEvent acceptedFrom bookedFor waitingIn made enteredAt usesOf stringsAt stringIn readInto workedOut eventsInto
+booking = tt
 
 pub examples : Examples
-unfolding joined poolCount maxData header headerLength eventBytes gain used usedBelow usedPools bytesOf stringOf sourceAt lengthAt wholeAt sizeAt dataAt entryAt number foundEvent thenRead historyFrom history bookedEvent usesOf readInto workedOut
+unfolding joined poolCount maxData header headerLength eventBytes gain used usedBelow usedPools bytesOf stringOf sourceAt lengthAt wholeAt sizeAt dataAt entryAt number foundEvent thenRead historyFrom history stepping tracing booking
 examples =
     record {
       strings = (refl, refl, refl);
@@ -48,6 +54,10 @@ examples =
       others = refl;
       uses = refl;
       worked = (refl, refl, refl);
-      entered = entered-row;
-      used = used-row;
+      stray = (refl, refl);
+      made = refl;
+      entered = refl;
+      held = (refl, refl);
+      waiting = (refl, refl);
+      into = refl;
     }

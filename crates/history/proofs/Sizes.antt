@@ -84,7 +84,8 @@ module _ (string : List ℕ) (place : ℕ) where
   entry-nothing n l e z = rw (ne-eqb place (length string) l, size-none (sym e ∙ z))
 
   pub entry-found :
-      (n source from next : ℕ) → (place ≡ length string → ⊥) → n ≡ sizeAt string place → (n ≡ 0 → ⊥) → source ≡ sourceAt string place →
+      (n source from next : ℕ) → (place ≡ length string → ⊥) → n ≡ sizeAt string place → (n ≡ 0 → ⊥) →
+      source ≡ sourceAt string place →
       from ≡ place + 3 → next ≡ place + 3 + n → Found source from next ≡ entryAt string place
   unfolding entryAt gain headerLength
   entry-found n source from next l e h q f g =

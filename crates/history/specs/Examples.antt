@@ -11,7 +11,8 @@ use Rattle.reference.specs.Provenance.{PoolUse}
 use Rattle.history.specs.Strings.{Event, stringOf}
 use Rattle.history.specs.Reader.{entryAt, dataAt, number, history}
 use Rattle.quotas.specs.Entries.{without, Entry, taking}
-use Rattle.history.specs.Runs.{bookedEvent, waitingIn, made, enteredAt, usesOf, stringsAt, stringIn, workedOut}
+use Rattle.history.specs.Runs.{bookedEvent, bookedFor, waitingIn, made, enteredAt, usesOf, stringsAt, stringIn, workedOut}
+use Rattle.history.specs.RunStatements.{eventsInto}
 use Rattle.history.specs.declared.answer.Answer.the-variants.{Found, End, NoEvent}
 
 -- 01's event and one of source 900: 07 00 02 A1 B2, 84 03 01 05
@@ -131,29 +132,55 @@ WorkedRow =
     ≡ record { pool = 0; events = twoEvents } ∷ record { pool = 1; events = [] } ∷ record { pool = 2; events = take 1 twoEvents } ∷ [])
     × (workedOut 3 (twoString ∷ []) ≡ record { pool = 0; events = twoEvents } ∷ []) × (workedOut 4 [] ≡ [])
 
--- a run: two events that make pool 0 due, a refused one between them, the first once more, one that waits in pool 1, and a request, which
--- makes the first reseed
+-- a string that breaks off is read up to there, and a string more than there are pools is left out
+abbrev pub StrayRow : Type 0
+StrayRow =
+    (workedOut 3 (take 8 twoString ∷ []) ≡ record { pool = 0; events = take 1 twoEvents } ∷ [])
+    × (workedOut 3 (twoString ∷ twoString ∷ []) ≡ record { pool = 0; events = twoEvents } ∷ [])
+
+-- events of 32 bytes, and of one
 abbrev pub long : ℕ → Event
-long x = record { source = x; content = replicate 32 9 }
+long source = record { source = source; content = replicate 32 9 }
 
-abbrev pub firstReseed : List Entry
-firstReseed =
+abbrev pub short : ℕ → Event
+short source = record { source = source; content = 5 ∷ [] }
+
+-- a run that makes two reseeds, the second one 101 ms after the first; the event without data is refused
+abbrev pub twoReseeds : List Entry
+twoReseeds =
     map (taking without)
-    (event 7 0 (replicate 32 9) ∷ event 65536 0 (9 ∷ []) ∷ event 900 0 (replicate 32 9) ∷ event 7 0 (replicate 32 9) ∷ event 7 1 (9 ∷ [])
-    ∷ request 0 [] ∷ [])
+    (event 7 0 (replicate 32 9) ∷ event 900 1 (5 ∷ []) ∷ event 7 0 [] ∷ event 8 0 (replicate 32 9) ∷ request 0 []
+    ∷ event 9 31 (5 ∷ []) ∷ event 10 0 (replicate 32 9) ∷ event 901 1 (5 ∷ []) ∷ event 11 0 (replicate 32 9) ∷ request 101 []
+    ∷ event 7 0 (161 ∷ 178 ∷ []) ∷ event 900 0 (5 ∷ []) ∷ [])
 
--- what had entered at reseeds 0, 1 and 2, and what waits in the pools 0 to 2
+-- which of its reseeds were made
+abbrev pub MadeRow : Type 0
+MadeRow = map (made twoReseeds) (0 ∷ 1 ∷ 2 ∷ 3 ∷ []) ≡ false ∷ true ∷ true ∷ false ∷ []
+
+-- the first took pool 0, the second the pools 0 and 1, with the event of pool 1 that came before the first
 abbrev pub EnteredRow : Type 0
 EnteredRow =
-    (map (enteredAt firstReseed) (0 ∷ 1 ∷ 2 ∷ []) ≡ [] ∷ (record { pool = 0; events = long 7 ∷ long 900 ∷ long 7 ∷ [] } ∷ []) ∷ [] ∷ [])
-    × (map (waitingIn firstReseed) (0 ∷ 1 ∷ 2 ∷ []) ≡ [] ∷ (seven ∷ []) ∷ [] ∷ [])
-    × (map (made firstReseed) (0 ∷ 1 ∷ 2 ∷ []) ≡ false ∷ true ∷ false ∷ [])
+    map (enteredAt twoReseeds) (0 ∷ 1 ∷ 2 ∷ 3 ∷ [])
+    ≡ [] ∷ (record { pool = 0; events = long 7 ∷ long 8 ∷ [] } ∷ [])
+    ∷ (record { pool = 0; events = long 10 ∷ long 11 ∷ [] } ∷ record { pool = 1; events = short 900 ∷ short 901 ∷ [] } ∷ [])
+    ∷ [] ∷ []
 
--- the strings that were used, and those that the pools hold
-abbrev pub UsedRow : Type 0
-UsedRow =
-    (map (stringsAt firstReseed) (0 ∷ 1 ∷ 2 ∷ []) ≡ [] ∷ (stringOf (long 7 ∷ long 900 ∷ long 7 ∷ []) ∷ []) ∷ [] ∷ [])
-    × (map (stringIn firstReseed) (0 ∷ 1 ∷ 2 ∷ []) ≡ [] ∷ stringOf (seven ∷ []) ∷ [] ∷ [])
+-- the strings of its first six calls: those used at each reseed, and those that the pools hold
+abbrev pub HeldRow : Type 0
+HeldRow =
+    (map (stringsAt (take 6 twoReseeds)) (0 ∷ 1 ∷ 2 ∷ []) ≡ [] ∷ (stringOf (long 7 ∷ long 8 ∷ []) ∷ []) ∷ [] ∷ [])
+    × (map (stringIn (take 6 twoReseeds)) (0 ∷ 1 ∷ 2 ∷ 31 ∷ [])
+    ≡ [] ∷ (132 ∷ 3 ∷ 1 ∷ 5 ∷ []) ∷ [] ∷ (9 ∷ 0 ∷ 1 ∷ 5 ∷ []) ∷ [])
+
+-- the event of pool 31 is booked for reseed 2^31, and waits; those of pool 0 wait from the last reseed on
+abbrev pub WaitingRow : Type 0
+WaitingRow =
+    (map (waitingIn twoReseeds) (0 ∷ 1 ∷ 2 ∷ 31 ∷ []) ≡ twoEvents ∷ [] ∷ [] ∷ (short 9 ∷ []) ∷ [])
+    × (map (λ n. bookedFor twoReseeds n 31) (0 ∷ 2 ∷ 2147483648 ∷ 4294967296 ∷ []) ≡ [] ∷ [] ∷ (short 9 ∷ []) ∷ [] ∷ [])
+
+-- a list of events as calls
+abbrev pub IntoRow : Type 0
+IntoRow = eventsInto 3 twoEvents ≡ taking without (event 7 3 (161 ∷ 178 ∷ [])) ∷ taking without (event 900 3 (5 ∷ [])) ∷ []
 
 pub record Examples : Type 0 where
   pub strings : StringsRow
@@ -172,5 +199,9 @@ pub record Examples : Type 0 where
   pub others : OthersRow
   pub uses : UsesRow
   pub worked : WorkedRow
+  pub stray : StrayRow
+  pub made : MadeRow
   pub entered : EnteredRow
-  pub used : UsedRow
+  pub held : HeldRow
+  pub waiting : WaitingRow
+  pub into : IntoRow
