@@ -461,7 +461,7 @@ fortuna_conversion fortuna_convert(const uint8_t *log, size_t length, bool wide,
    - It is proved that a string comes from one list of events only, order included.
    - It is proved too, of events with sources up to 65,535 and 1 to 32 bytes of data, that the string of a list is read
      as that list, to its end, and that, read from 0, exactly the strings that no list gives come to FORTUNA_NO_EVENT.
-     The empty string is that of no event.
+     The empty string is that of the empty list.
    - A pool takes no more than 2^61 - 65 bytes (FORTUNA_POOL_FULL). The reader does not look at that.
    - Start at 0, and go on from next. Any place may be asked for, but between two starts an event's bytes may look like
      another event.
@@ -471,8 +471,8 @@ fortuna_conversion fortuna_convert(const uint8_t *log, size_t length, bool wide,
      entered the key, with its pool and its order there: this is proved of every list of calls. The seed of an update
      enters the key too and is no event. */
 
-/* What stands at a place of a string. Where found is set it is an event: its source; where its data start, which reach
-   to the next place; and the next place. Where found is not set, it is the end with FORTUNA_DONE and no event with
+/* What stands at a place of a string. Where found is set it is an event: its source; where its data start; and the next
+   place, up to which they reach. Where found is not set, it is the end with FORTUNA_DONE and no event with
    FORTUNA_NO_EVENT: the source is 0 then, and from and next are the place. place is always the one asked for. */
 typedef struct {
     uint32_t number;

@@ -81,7 +81,8 @@ def strings_of(events, last, header):
         source = one.source.to_bytes(header, "little").hex().upper()
         strings[one.reseed, one.pool] += f"{source}{len(one.data) // 2:02X}{one.data}"
     used = [(reseed, pool) for reseed in range(1, last + 1) for pool in POOLS if reseed % 2**pool == 0]
-    return "".join(f"reseed {r}, pool {i}:{' ' * bool(strings[r, i])}{strings[r, i]}\n" for r, i in used)
+    kind = {1: ", header 1", 2: ""}[header]
+    return "".join(f"reseed {r}, pool {i}{kind}:{' ' * bool(strings[r, i])}{strings[r, i]}\n" for r, i in used)
 
 
 def without_lines(text):
@@ -124,10 +125,10 @@ def logbook(folder, logged, *words, status=0, said=None):
     return tell([LOGBOOK, *words, *logged.words, "some.log"], folder, status, said)
 
 
-def read_back(folder, strings):
+def read_back(folder, strings, status=0, said=None):
     """What bin/events makes of what --strings prints."""
     (folder / "strings").write_text(strings)
-    return tell([EVENTS, "strings"], folder, 0, None, env=TAKEN)
+    return tell([EVENTS, "strings"], folder, status, said, env=TAKEN)
 
 
 def check_log(folder, logged):
@@ -145,6 +146,9 @@ def check_log(folder, logged):
         same(f"--strings {last}", strings, strings_of(events, last, logged.header))
         if logged.header == 2:
             same(f"--strings {last}, read back", read_back(folder, strings), without_lines(found))
+        elif strings:
+            said = "events: line 1: not of the form 'reseed R, pool I: HEX'\n"
+            same(f"--strings {last}, of header 1", read_back(folder, strings, 2, said), "")
 
 
 def behind_stored_logs(folder):

@@ -65,10 +65,12 @@ class Past:
 
     def strings(self, last):
         """The strings that pool reseeds up to this one have used, a text each; an empty one is nothing behind its
-        colon."""
+        colon. With one byte for a source they are said to be such: bin/events, which would take them for others,
+        refuses them so."""
+        header = "" if self.book.source_bytes == 2 else f", header {self.book.source_bytes}"
         for reseed in range(1, last + 1):
             for pool in (pool for pool in range(POOLS) if reseed % 2**pool == 0):
-                yield f"reseed {reseed}, pool {pool}: {capitals(self.book.given(pool, reseed))}".rstrip()
+                yield f"reseed {reseed}, pool {pool}{header}: {capitals(self.book.given(pool, reseed))}".rstrip()
 
 
 def capitals(content):

@@ -19,8 +19,8 @@ no FILE is given.
                        that differs, if any
   --help               prints this
 
-With one of these it prints in place of the answers which events have entered a key. Seeds, which updates bring, are not
-among them.
+With one of these it prints, in place of the answers, what has entered a key: events, or the pools' strings. Seeds,
+which updates bring, are not among them.
 
   --behind N           the events that pool reseeds 1 to N have used, in the order of reseed, pool, and order in the
                        pool, each as `line 3: reseed 1, pool 0, order 1, source 7, data A1B2`: line 3 of the log
@@ -28,7 +28,8 @@ among them.
                        `line 12 draws it, after pool reseed 3` and what --behind 3 prints
   --strings N          the pools' byte strings that pool reseeds 1 to N have used, each as
                        `reseed 1, pool 0: 070002A1B2`, with nothing behind the colon where a pool was empty. bin/events
-                       reads them back into events, by the proved library, but for those of --header 1
+                       reads them back into events, by the proved library. Those of --header 1 are marked `header 1`
+                       behind the pool, and bin/events refuses them
 
 Exit status: 0 every line was answered, what is behind a key was found, or exactly one edition gives ANSWERS; 1 none
 does, or both, as for a log that draws no byte; 1 also where the log makes fewer than N pool reseeds, or no answer holds

@@ -6,7 +6,7 @@ ghost use Rattle.history.specs.Reader.{entryAt};
 ghost use Rattle.fortuna_c.specs.PoolStrings.{entryOf};
 
 // 0 or 44; the event's source; whether an event was found; the place that was asked for; where the event's data start, and the next place.
-// Where no event was found the source is 0, and the data start and the next place are the place asked for.
+// Where no event was found the source is 0, and `from` and `next` are the place asked for.
 #[repr(C)]
 pub struct FortunaEntry {
     pub number: u32,

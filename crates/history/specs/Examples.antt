@@ -36,12 +36,13 @@ PlacesRow =
     ≡ Found 7 3 5 ∷ NoEvent 1 ∷ NoEvent 2 ∷ NoEvent 3 ∷ NoEvent 4
     ∷ Found 900 8 9 ∷ NoEvent 6 ∷ NoEvent 7 ∷ NoEvent 8 ∷ End ∷ NoEvent 10 ∷ []
 
--- their data, and none elsewhere; of 32 bytes all, and nothing of none, of 33 or of 32 with the last one missing
+-- their data, and none elsewhere
 abbrev pub DataRow : Type 0
 DataRow =
     map (dataAt twoString) (0 ∷ 1 ∷ 2 ∷ 3 ∷ 4 ∷ 5 ∷ 6 ∷ 7 ∷ 8 ∷ 9 ∷ 10 ∷ [])
     ≡ (161 ∷ 178 ∷ []) ∷ [] ∷ [] ∷ [] ∷ [] ∷ (5 ∷ []) ∷ [] ∷ [] ∷ [] ∷ [] ∷ [] ∷ []
 
+-- all 32 bytes; no data where the length is 0 or 33, or the last of 32 bytes is missing
 abbrev pub DataSizesRow : Type 0
 DataSizesRow =
     map (λ string. dataAt string 0)
@@ -100,8 +101,8 @@ BrokenRow =
 abbrev pub seven : Event
 seven = record { source = 7; content = 9 ∷ [] }
 
--- an event of pool 3 is booked for reseed 8 as long as 7 reseeds were made, then for 16; of pool 0 for the next, of pool 31 for 2^31; of
--- another pool it is nothing
+-- an event of pool 3 is booked for reseed 8 while at most 7 reseeds were made, and for 16 while 8 to 15 were; of pool 0 for the next, of
+-- pool 31 for 2^31; asked of another pool it gives nothing
 abbrev pub BookingsRow : Type 0
 BookingsRow =
     (map (λ r. bookedEvent (λ k. eqb k 8) 3 r (event 7 3 (9 ∷ []))) (0 ∷ 7 ∷ 8 ∷ 15 ∷ [])

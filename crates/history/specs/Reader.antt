@@ -33,7 +33,7 @@ sizeAt string place = cond (wholeAt string place) (lengthAt string place) 0
 unfoldable pub dataAt : List ℕ → ℕ → List ℕ
 dataAt string place = take (sizeAt string place) (drop (place + headerLength) string)
 
--- the end of the string; an event, where its data start, and the next place; or no event, with the place
+-- the end of the string; an event: its source, where its data start, and the next place; or no event, with the place
 unfoldable pub entryAt : List ℕ → ℕ → Answer
 entryAt string place =
     cond (eqb place (length string)) End

@@ -50,7 +50,7 @@ pub record Behind (calls : List Entry) (n : ℕ) : Type 0 where
   pub whole : map (λ s. history s .number) (stringsAt calls n) ≡ map (λ s. 0) (stringsAt calls n)
   -- worked out from the strings and the schedule alone, these are the events of the calls, with their pools and in their order there
   pub worked : workedOut n (stringsAt calls n) ≡ enteredAt calls n
-  -- a reseed that the run has made was made by one of its calls
+  -- the run has made reseed n exactly if one of its calls makes it
   pub makes : (made calls n ≡ true) ↔ Makes calls n
   -- that call takes the strings that the pools hold, of those that reseed n uses, in rising i
   pub held : (m : Makes calls n) → stringsAt calls n ≡ map (stringIn (m .before)) (usedPools n)

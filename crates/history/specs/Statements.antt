@@ -66,7 +66,7 @@ ReadBack =
 pub record HistoryLaw (string : List ℕ) : Type 0 where
   -- exactly the strings that no list of allowed events gives come to 44
   pub refused : (history string .number ≡ 44) ↔ ((es : List Event) → AllAllowed es → stringOf es ≡ string → ⊥)
-  -- and exactly those that its own events give come to the end
+  -- and a string comes to the end exactly if the events read from it give it back
   pub ended : (history string .number ≡ 0) ↔ (stringOf (history string .events) ≡ string)
   -- no other number comes, and the reader says the same at the place where the reading ended
   pub stops :

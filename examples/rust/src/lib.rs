@@ -842,8 +842,8 @@ pub fn entry_at(string: &[u8], place: usize) -> Result<Option<Entry<'_>>, NotRea
     }
 }
 
-/// The events of a pool's byte string, in their order, read from 0. A string comes from one list of events only. One
-/// that no list gives ends with a refusal, after the events before its place; all others end without one.
+/// The events of a pool's byte string, in their order, read from 0. No two lists of events give the same string. A
+/// string that no list gives ends with a refusal, after the events before its place; all others end without one.
 pub fn events(string: &[u8]) -> Events<'_> {
     Events {
         string,
