@@ -3,7 +3,7 @@
 use mathlib.Core.Path.{_≡_, refl, sym, ap, subst, _∙_}
 use mathlib.Core.Bool.{Bool, true, false, cond, _&&_, true≢false}
 use mathlib.Core.Logic.{⊎-elim}
-use mathlib.Core.List.{List, [], _∷_, _++_, append-assoc, append-nil, List·Memᴰ·not-nil, List·Memᴰ·append-cases, List·Memᴰ·eq-of-singleton}
+use mathlib.Core.List.{List, [], _∷_, _++_, append-assoc, append-nil, List·Memᴰ·append-cases, List·Memᴰ·eq-of-singleton}
 use Prim.Native.Nat.{ℕ, _+_, _*_, _/_, _^_}
 use lib.Dec.{eqb}
 use lib.ListN.{length}
@@ -23,6 +23,7 @@ use Rattle.reference.proofs.Provenance.{same-reseeds, same-number}
 use Rattle.reference.proofs.Laws.{accepted-passed, no-events}
 use Rattle.history.specs.Strings.{Event, bytesOf, stringOf, Allowed, AllAllowed}
 use Rattle.history.specs.Runs.{bookedEvent, acceptedEvent, acceptedFrom}
+use Rattle.history.proofs.Histories.{none-allowed}
 
 -- ---- strings of lists put together
 
@@ -36,7 +37,7 @@ contents-append es fs = joined-append (λ e. e .bytes) es fs
 
 -- ---- which calls are events
 
-unfoldable pub isEvent : Call → Bool
+pub isEvent : Call → Bool
 isEvent (event source pool content) = true
 isEvent (request clock buffer) = false
 isEvent (update clock seed) = false
@@ -80,9 +81,6 @@ module _ (test : ℕ → Bool) (i : ℕ) where
 
 singleton-allowed : (e : Event) → Allowed e → AllAllowed (e ∷ [])
 singleton-allowed e a x m = subst Allowed (sym (List·Memᴰ·eq-of-singleton m)) a
-
-none-allowed : AllAllowed []
-none-allowed x m = absurd (List·Memᴰ·not-nil m)
 
 module _ (test : ℕ → Bool) (i : ℕ) where
   one-allowed :

@@ -18,6 +18,12 @@ use Rattle.history.specs.Runs.{bookedEvent, acceptedEvent, acceptedFrom,
 use Rattle.history.specs.RunStatements.{eventsInto}
 use Rattle.history.specs.Examples.{Examples}
 
+-- an event's bytes, and the reader
+reading : Unit {0}
+unfolding joined maxData header headerLength eventBytes gain bytesOf stringOf
+    sourceAt lengthAt wholeAt sizeAt dataAt entryAt number foundEvent thenRead historyFrom history
+reading = tt
+
 -- the station's steps, without the cipher
 stepping : Unit {0}
 unfolding answering adding emptying emptiedPools reseed generateBlocks blockData pseudoRandomData
@@ -35,7 +41,7 @@ unfolding bookedEvent acceptedEvent acceptedFrom bookedFor waitingIn made entere
 booking = tt
 
 pub examples : Examples
-unfolding joined poolCount maxData header headerLength eventBytes gain used usedBelow usedPools bytesOf stringOf sourceAt lengthAt wholeAt sizeAt dataAt entryAt number foundEvent thenRead historyFrom history stepping tracing booking
+unfolding poolCount used usedBelow usedPools reading stepping tracing booking
 examples =
     record {
       strings = (refl, refl, refl);

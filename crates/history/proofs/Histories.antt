@@ -23,8 +23,8 @@ first-allowed e es a = a e (List·Memᴰ·head refl)
 others-allowed : (e : Event) (es : List Event) → AllAllowed (e ∷ es) → AllAllowed es
 others-allowed e es a x m = a x (List·Memᴰ·tail m)
 
-all-allowed : (e : Event) (es : List Event) → Allowed e → AllAllowed es → AllAllowed (e ∷ es)
-all-allowed e es a b x m = ⊎-elim (λ q. subst Allowed (sym q) a) (λ n. b x n) (List·Memᴰ·cases-cons m)
+cons-allowed : (e : Event) (es : List Event) → Allowed e → AllAllowed es → AllAllowed (e ∷ es)
+cons-allowed e es a b x m = ⊎-elim (λ q. subst Allowed (sym q) a) (λ n. b x n) (List·Memᴰ·cases-cons m)
 
 -- one entry more in front
 led : Event → History → History
@@ -101,7 +101,7 @@ record Reads (string : List ℕ) (place : ℕ) (h : History) : Type 0 where
   stops :
       ((h .number ≡ 0) × (entryAt string (h .place) ≡ End)) ⊎ ((h .number ≡ 44) × (entryAt string (h .place) ≡ NoEvent (h .place)))
 
-none-allowed : AllAllowed []
+pub none-allowed : AllAllowed []
 none-allowed x m = absurd (List·Memᴰ·not-nil m)
 
 ends-reads : (string : List ℕ) (place : ℕ) → place ≡ length string → entryAt string place ≡ End → Reads string place (complete [] string)
@@ -126,7 +126,7 @@ led-reads : (string : List ℕ) (place : ℕ) (e : Event) (h : History) → Allo
 unfolding led stringOf joined
 led-reads string place e h a p r =
     record {
-      allowed = all-allowed e (h .events) a (r .allowed);
+      allowed = cons-allowed e (h .events) a (r .allowed);
       front = p ∙ ap (λ (l : List ℕ). bytesOf e ++ l) (r .front) ∙ sym (append-assoc (bytesOf e) (joined bytesOf (h .events)) (drop (h .place) string));
       reached = rw (length-append) (omega (arith, r .reached));
       stops = r .stops;

@@ -57,14 +57,14 @@ module _ (string : List ℕ) (place : ℕ) where
 
   -- ---- what a size says
 
-  pub size-none : sizeAt string place ≡ 0 → wholeAt string place ≡ false
+  size-none : sizeAt string place ≡ 0 → wholeAt string place ≡ false
   unfolding sizeAt
   size-none h =
       by-test (wholeAt string place) (wholeAt string place ≡ false)
       (λ t. let z : lengthAt string place ≡ 0 = rw t at h in absurd (omega (arith, tested string place t .some)))
       (λ t. t)
 
-  pub size-some : (sizeAt string place ≡ 0 → ⊥) → (wholeAt string place ≡ true) × (sizeAt string place ≡ lengthAt string place)
+  size-some : (sizeAt string place ≡ 0 → ⊥) → (wholeAt string place ≡ true) × (sizeAt string place ≡ lengthAt string place)
   unfolding sizeAt
   size-some h =
       by-test (wholeAt string place) ((wholeAt string place ≡ true) × (sizeAt string place ≡ lengthAt string place))

@@ -46,11 +46,11 @@ module _ (s : Fortuna) (q : Quotas) (source pool : ℕ) (content : List ℕ) whe
       (λ t. absurd (true≢false (sym (reseed-told s this .0 (ltb-true 0 _ t) .1) ∙ (unfold requests in refl))))
       (λ t. t)
 
--- without a list it is refused by what its pool holds in the model
 asked-twice : (a b : ℕ) → andThen a (andThen 0 (andThen a b)) ≡ andThen a b
 unfolding andThen
 asked-twice a b = by-test (eqb a 0) (andThen a (andThen 0 (andThen a b)) ≡ andThen a b) (λ t. rw t) (λ t. rw t)
 
+-- without a list it is refused by what its pool holds in the model
 pub bare-number :
     (calls : List Entry) (source pool : ℕ) (content : List ℕ) →
     entryNumber (stateAfter calls) (taking without (event source pool content))
