@@ -6,5 +6,6 @@ pub mod Accepted
 pub mod UnderKey
 pub mod Effects
 pub mod Statements
+pub mod Rising
 pub mod Boundaries
 pub mod Laws

@@ -51,3 +51,7 @@ NothingAsked g = length (g .counter) ≡ 16 → ((i : ℕ) → getD (g .counter)
 -- different answers have different numbers
 abbrev pub NumberInjective : Type 0
 NumberInjective = (a b : Answer) → number a ≡ number b → a ≡ b
+
+-- no block stands at two places
+abbrev pub NoRepeat : List (List ℕ) → Type 0
+NoRepeat l = (i j : ℕ) → i < j → j < length l → getD l i [] ≡ getD l j [] → ⊥

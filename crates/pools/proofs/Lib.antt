@@ -15,6 +15,7 @@ pub mod Servables
 pub mod Outcomes
 pub mod Numbers
 pub mod EachTry
+pub mod RisingRuns
 pub mod OneReseed
 pub mod Passing
 pub mod Tries

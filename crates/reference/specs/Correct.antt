@@ -3,11 +3,12 @@
 -- Assumes nothing.
 use mathlib.Core.Path.{_≡_}
 use mathlib.Core.List.{List, _∷_, _++_}
+use Rattle.generator.specs.Statements.{NoRepeat}
 use Rattle.quotas.specs.Entries.{Entry}
 use Rattle.reference.specs.Agreement.{RunIsSteps, Agrees}
 use Rattle.reference.specs.Provenance.{Provenance}
 use Rattle.reference.specs.Timer.{ElapsedLaw, TimerStep}
-use Rattle.reference.specs.Counters.{NoRepeat, counterBlocks, Counted}
+use Rattle.reference.specs.Counters.{counterBlocks, Counted}
 use Rattle.reference.specs.KeyRequests.{OnOneKey}
 use Rattle.reference.specs.BlankPages.{BlankPages}
 

@@ -3,9 +3,9 @@
 use mathlib.Core.Path.{_≡_}
 use mathlib.Core.Bool.{Bool, true, false, cond, _&&_}
 use mathlib.Core.List.{List, [], _∷_}
-use Prim.Native.Nat.{ℕ, _+_, _<_}
+use Prim.Native.Nat.{ℕ, _+_}
 use lib.Dec.{eqb}
-use lib.ListN.{length, getD}
+use lib.ListN.{length}
 use Rattle.laws.specs.Lists.{joined}
 use Rattle.pools.specs.declared.Fortuna.{Fortuna}
 use Rattle.pools.specs.Calls.{Call, event, request, update, write, draw, shuffle, Outcome}
@@ -13,10 +13,6 @@ use Rattle.pools.specs.State.{counterOf}
 use Rattle.quotas.specs.Entries.{Entry}
 use Rattle.reference.specs.Runs.{run, stateAfter}
 use Rattle.reference.specs.Timer.{reseedsAfter}
-
--- no element stands at two places
-abbrev pub NoRepeat : List (List ℕ) → Type 0
-NoRepeat l = (i j : ℕ) → i < j → j < length l → getD l i [] ≡ getD l j [] → ⊥
 
 -- the counter blocks of a run, in the order of its Block steps
 unfoldable pub counterBlocks : List Entry → List (List ℕ)
