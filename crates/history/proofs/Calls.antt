@@ -8,16 +8,16 @@ use Prim.Native.Nat.{ℕ, _+_, _*_, _/_, _^_}
 use lib.Dec.{eqb}
 use lib.ListN.{length}
 use borrow.Author.Tests.{eqb-true, eqb-false}
-use Rattle.laws.specs.Lists.{joined}
+use Rattle.laws.specs.Lists.{joined, select}
 use Rattle.laws.proofs.Cases.{by-test, split}
 use Rattle.laws.proofs.Lists.{joined-append}
+use Rattle.laws.proofs.Selections.{select-append}
 use Rattle.pools.specs.Calls.{Call, event, request, update, write, draw, shuffle}
 use Rattle.quotas.specs.Entries.{Quotas, Entry, taking, entryNumber}
 use Rattle.reference.specs.Runs.{stateAfter}
 use Rattle.reference.specs.Timer.{reseedsAfter}
-use Rattle.reference.specs.Reference.{Accepted, scheduledReseed, scheduled, select, contents, referenceAfter, referenceEntryNumber}
+use Rattle.reference.specs.Reference.{Accepted, scheduledReseed, scheduled, contents, referenceAfter, referenceEntryNumber}
 use Rattle.reference.specs.Provenance as Provenance
-use Rattle.reference.proofs.Bookings.{select-append}
 use Rattle.reference.proofs.Places.{newEvent, none-added, event-added}
 use Rattle.reference.proofs.Provenance.{same-reseeds, same-number}
 use Rattle.reference.proofs.Laws.{accepted-passed, no-events}

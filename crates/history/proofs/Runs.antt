@@ -8,7 +8,7 @@ use native.Mathlib.Omega.{arith}
 use lib.Dec.{eqb, ltb, leb}
 use lib.ListN.{length}
 use borrow.Author.Tests.{lt-ltb, le-leb, ltb-true, leb-true, leb-false, eqb-true, eqb-false, eq-eqb, ne-eqb}
-use Rattle.laws.specs.Lists.{joined}
+use Rattle.laws.specs.Lists.{joined, select}
 use Rattle.laws.proofs.Cases.{by-test, both}
 use Rattle.hash.specs.ShaD.{poolOf}
 use Rattle.pools.specs.Events.{poolCount}
@@ -17,7 +17,7 @@ use Rattle.quotas.specs.Entries.{Entry}
 use Rattle.pools.specs.State.{poolAt}
 use Rattle.reference.specs.Runs.{stateAfter}
 use Rattle.reference.specs.Timer.{reseedsAfter}
-use Rattle.reference.specs.Reference.{Accepted, select, pending, consumedAt, contents, poolContents, referenceAfter}
+use Rattle.reference.specs.Reference.{Accepted, pending, consumedAt, contents, poolContents, referenceAfter}
 use Rattle.reference.specs.Provenance.{PoolUse, erased, traced, scheduledUse, scheduledUses}
 use Rattle.reference.proofs.Tracing.{erased-map, run-tied}
 use Rattle.reference.proofs.Provenance.{same-reseeds}

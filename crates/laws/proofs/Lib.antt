@@ -4,6 +4,7 @@ pub mod Tables
 pub mod Copy
 pub mod Refusals
 pub mod Lists
+pub mod Selections
 pub mod Counts
 pub mod Bits
 pub mod Parts

@@ -36,3 +36,8 @@ countOf x (y ∷ ys) = cond (eqb x y) 1 0 + countOf x ys
 unfoldable pub joined : {A B : Type 0} → (A → List B) → List A → List B
 joined f [] = []
 joined f (x ∷ xs) = f x ++ joined f xs
+
+-- the elements that pass a test, in order
+unfoldable pub select : {A : Type 0} → (A → Bool) → List A → List A
+select t [] = []
+select t (x ∷ xs) = cond (t x) (x ∷ select t xs) (select t xs)

@@ -1,50 +1,22 @@
 -- Which accepted events a pool holds, and which of them a reseed consumes.
 -- Assumes nothing.
-use mathlib.Core.Path.{_≡_, refl, sym, ap, ap₂, subst, _∙_}
-use mathlib.Core.Bool.{Bool, true, false, cond, _&&_, and-true, true≢false}
-use mathlib.Core.List.{List, [], _∷_, _++_}
+use mathlib.Core.Path.{_≡_, refl, sym, ap₂, subst, _∙_}
+use mathlib.Core.Bool.{Bool, true, false, _&&_, and-true, true≢false}
+use mathlib.Core.List.{List, []}
 use Prim.Native.Nat.{ℕ, _+_, _≤_}
 use native.Mathlib.Omega.{arith}
 use lib.Dec.{eqb, ltb}
 use borrow.Author.Tests.{eqb-true, ltb-true, ltb-false, lt-ltb, le-ltb, eq-eqb, ne-eqb}
+use Rattle.laws.specs.Lists.{select}
 use Rattle.laws.proofs.Cases.{by-test}
+use Rattle.laws.proofs.Selections.{Every, select-ext, select-none}
 use Rattle.pools.specs.Schedule.{used}
-use Rattle.reference.specs.Reference.{Accepted, scheduledReseed, scheduled, select, pending, consumedAt}
+use Rattle.reference.specs.Reference.{Accepted, scheduledReseed, scheduled, pending, consumedAt}
 use Rattle.reference.proofs.Schedule.{scheduled-later, scheduled-by, scheduled-used}
 
 -- each event was accepted after at most n reseeds
 abbrev pub Past : ℕ → List Accepted → Type 0
-Past n [] = Unit {0}
-Past n (e ∷ es) = (e .reseedsBefore ≤ n) × Past n es
-
-pub past-later : (n : ℕ) (es : List Accepted) → Past n es → Past (n + 1) es
-past-later n [] p = tt
-past-later n (e ∷ es) p = (omega arith, past-later n es (p .1))
-
-pub past-append : (n : ℕ) (es : List Accepted) (e : Accepted) → Past n es → e .reseedsBefore ≤ n → Past n (es ++ (e ∷ []))
-past-append n [] e p h = (h, tt)
-past-append n (x ∷ es) e p h = (p .0, past-append n es e (p .1) h)
-
--- ---- two tests that agree on past events select the same
-
-select-ext : (n : ℕ) (t u : Accepted → Bool) (es : List Accepted) → ((e : Accepted) → e .reseedsBefore ≤ n → t e ≡ u e) → Past n es → select t es ≡ select u es
-unfolding select
-select-ext n t u [] h p = refl
-select-ext n t u (e ∷ es) h p = rw (h e (p .0), select-ext n t u es h (p .1))
-
-select-none : (n : ℕ) (t : Accepted → Bool) (es : List Accepted) → ((e : Accepted) → e .reseedsBefore ≤ n → t e ≡ false) → Past n es → select t es ≡ []
-unfolding select
-select-none n t [] h p = refl
-select-none n t (e ∷ es) h p = rw (h e (p .0)) (select-none n t es h (p .1))
-
-pub select-append : (t : Accepted → Bool) (es : List Accepted) (e : Accepted) → select t (es ++ (e ∷ [])) ≡ select t es ++ cond (t e) (e ∷ []) []
-unfolding select
-select-append t [] e = refl
-select-append t (x ∷ es) e = grown (t x) (select t es) (cond (t e) (e ∷ []) []) (select-append t es e)
-  where
-    grown : (b : Bool) {l : List Accepted} (m r : List Accepted) → l ≡ m ++ r → cond b (x ∷ l) l ≡ cond b (x ∷ m) m ++ r
-    grown true m r q = ap {B = List Accepted} (λ l. x ∷ l) q
-    grown false m r q = q
+Past n es = Every (λ (e : Accepted). e .reseedsBefore ≤ n) es
 
 -- ---- one event at a pool reseed
 
@@ -97,13 +69,13 @@ module _ (n i : ℕ) (e : Accepted) (p : e .reseedsBefore ≤ n) where
 
 module _ (n i : ℕ) (es : List Accepted) (p : Past n es) where
   pub pending-consumed : used (n + 1) i ≡ true → select (pending n i) es ≡ select (consumedAt (n + 1) i) es
-  pending-consumed u = select-ext n (pending n i) (consumedAt (n + 1) i) es (λ e h. consumed-used n i e h u) p
+  pending-consumed u = select-ext (pending n i) (consumedAt (n + 1) i) es (λ e m. consumed-used n i e (p e m) u)
 
   pub pending-gone : used (n + 1) i ≡ true → select (pending (n + 1) i) es ≡ []
-  pending-gone u = select-none n (pending (n + 1) i) es (λ e h. gone-used n i e h u) p
+  pending-gone u = select-none (pending (n + 1) i) es (λ e m. gone-used n i e (p e m) u)
 
   pub pending-stays : used (n + 1) i ≡ false → select (pending (n + 1) i) es ≡ select (pending n i) es
-  pending-stays u = select-ext n (pending (n + 1) i) (pending n i) es (λ e h. stays-unused n i e h u) p
+  pending-stays u = select-ext (pending (n + 1) i) (pending n i) es (λ e m. stays-unused n i e (p e m) u)
 
 -- ---- a new event
 

@@ -8,15 +8,16 @@ use native.Mathlib.Omega.{arith}
 use lib.Dec.{eqb}
 use lib.ListN.{length, length-append}
 use borrow.Author.Tests.{eqb-true}
-use Rattle.laws.specs.Lists.{joined, allZero}
+use Rattle.laws.specs.Lists.{joined, select, allZero}
 use Rattle.laws.proofs.Cases.{by-test}
 use Rattle.laws.proofs.Lists.{joined-append, joined-one, allZero-replicate}
+use Rattle.laws.proofs.Selections.{every-none, every-append, select-append}
 use Rattle.hash.specs.ShaD.{maxPoolLength}
 use Rattle.generator.specs.Counter.{maxCounter}
 use Rattle.generator.specs.Steps.{GeneratorState, initial, reseed}
 use Rattle.pools.specs.Schedule.{used, usedPools}
-use Rattle.reference.specs.Reference.{Accepted, Reference, empty, select, pending, consumedAt, contents, poolContents, dueAt, appendEvent, withState, requestedState, referenceReseed, referenceReseedIfDue, referenceCount}
-use Rattle.reference.proofs.Bookings.{Past, past-later, past-append, select-append, new-pending, pending-consumed, pending-gone, pending-stays}
+use Rattle.reference.specs.Reference.{Accepted, Reference, empty, pending, consumedAt, contents, poolContents, dueAt, appendEvent, withState, requestedState, referenceReseed, referenceReseedIfDue, referenceCount}
+use Rattle.reference.proofs.Bookings.{Past, new-pending, pending-consumed, pending-gone, pending-stays}
 
 pub record Sound (b : Reference) : Type 0 where
   pub past : Past (b .reseeds) (b .events)
@@ -35,7 +36,7 @@ empty-contents i = refl
 pub sound-empty : Sound empty
 sound-empty =
     record {
-      past = unfold empty in tt;
+      past = unfold empty in every-none _;
       fits = λ i. rw (empty-contents i) zero-le;
       counts = unfold empty initial in zero-le;
       keyed = λ h. unfold empty initial in allZero-replicate 32;
@@ -96,7 +97,7 @@ pub sound-event : (place : ℕ) (b : Reference) (pool : ℕ) (bytes : List ℕ) 
     → Sound b → Sound (appendEvent place b pool bytes)
 sound-event place b pool bytes h s =
     record {
-      past = rw (events-noted place b pool bytes) (unfold appendEvent in past-append (b .reseeds) (b .events) _ (s .past) (omega arith));
+      past = rw (events-noted place b pool bytes) (unfold appendEvent in every-append _ (b .events) _ (s .past) (omega arith));
       fits = λ i. rw (contents-event place b pool bytes i, length-append) (grown i (eqb pool i) (eqb-true pool i));
       counts = unfold appendEvent in s .counts;
       keyed = unfold appendEvent in s .keyed;
@@ -139,7 +140,7 @@ pub sound-reseed : (b : Reference) (t : ℕ) → b .generator .count + 1 ≤ max
 unfolding referenceReseed reseed
 sound-reseed b t h s =
     record {
-      past = past-later (b .reseeds) (b .events) (s .past);
+      past = λ e m. omega (arith, s .past e m);
       fits = λ i. by-test (used (b .reseeds + 1) i) (length (poolContents (referenceReseed b t) i) ≤ maxPoolLength)
           (λ u. rw (contents-used b t (s .past) i u) zero-le)
           (λ u. rw (contents-unused b t (s .past) i u) (s .fits i));

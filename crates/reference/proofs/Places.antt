@@ -1,12 +1,12 @@
 -- The accepted events of the reference model by the place of their call: an accepted event stands in the list once, at its place, and no
 -- other call puts one there.
 -- Assumes nothing.
-use mathlib.Core.Path.{_≡_, refl, sym, ap, subst, _∙_}
-use mathlib.Core.Logic.{⊎-elim}
-use mathlib.Core.List.{List, [], _∷_, _++_, List·Memᴰ, List·Memᴰ·head, List·Memᴰ·not-nil, Memᴰ·append-left, Memᴰ·append-right, List·Memᴰ·append-cases, List·Memᴰ·eq-of-singleton}
+use mathlib.Core.Path.{_≡_, refl, ap, _∙_}
+use mathlib.Core.List.{List, [], _∷_, _++_, List·Memᴰ, List·Memᴰ·head, List·Memᴰ·not-nil, Memᴰ·append-left, Memᴰ·append-right}
 use Prim.Native.Nat.{ℕ, suc, _+_, _≤_, _<_}
 use native.Mathlib.Omega.{arith}
 use lib.ListN.{length}
+use Rattle.laws.proofs.Selections.{Every, every-append}
 use Rattle.pools.specs.Events.{eventBytes}
 use Rattle.pools.specs.Effects.{Effect}
 use Rattle.pools.specs.Calls.{Call, event, inputBuffer, outcome, stateFrom}
@@ -41,13 +41,6 @@ module _ (P : List Accepted → Type 0) (place : ℕ) (b : Reference) (h : P (b 
       (λ e. shape-keeps (c .call) _ (k e) (effect-shape place b (c .call)))
 
 -- ---- what holds of every event
-
-abbrev pub Every : (Accepted → Type 0) → List Accepted → Type 0
-Every P es = (e : Accepted) → List·Memᴰ e es → P e
-
-every-append : (P : Accepted → Type 0) (es : List Accepted) (e : Accepted) → Every P es → P e → Every P (es ++ (e ∷ []))
-every-append P es e h k x m =
-    ⊎-elim (λ n. h x n) (λ n. subst P (sym (List·Memᴰ·eq-of-singleton n)) k) (List·Memᴰ·append-cases es m)
 
 -- what holds of the events at later places goes on
 run-every :

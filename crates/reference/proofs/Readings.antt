@@ -3,7 +3,7 @@
 use mathlib.Core.Path.{_≡_, refl}
 use Prim.Native.Nat.{ℕ, _+_}
 use lib.ListN.{replicate}
-use Rattle.laws.specs.Lists.{joined}
+use Rattle.laws.specs.Lists.{joined, select}
 use Rattle.laws.specs.Blocks.{blockCount}
 use Rattle.generator.specs.Counter.{value, littleEndian}
 use Rattle.generator.specs.Steps.{generateBlocks, blockData, pseudoRandomData}
@@ -12,7 +12,7 @@ use Rattle.generator.proofs.Steps.{random-data-closed}
 use Rattle.pools.specs.State.{counterOf}
 use Rattle.pools.specs.Effects.{randomData}
 use Rattle.pools.specs.Calls.{inputNumber, runFrom, run}
-use Rattle.reference.specs.Reference.{scheduledReseed, scheduled, select, pending, contents, poolContents}
+use Rattle.reference.specs.Reference.{scheduledReseed, scheduled, pending, contents, poolContents}
 use Rattle.reference.specs.Reference.{appendEvent, referenceNumber, referenceEntryNumber, referenceEffect, referenceStep}
 use Rattle.reference.specs.ReferenceLists.{byRecords}
 use Rattle.reference.specs.Readings.{seededState, emptiedAt, filled, bookedAfter, GrowthRow, Readings}

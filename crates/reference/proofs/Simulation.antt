@@ -11,7 +11,7 @@ use native.Mathlib.Omega.{arith}
 use lib.Dec.{ltb}
 use lib.ListN.{length, set}
 use borrow.Author.Tests.{lt-ltb, eq-eqb, ne-eqb}
-use Rattle.laws.specs.Lists.{joined}
+use Rattle.laws.specs.Lists.{joined, select}
 use Rattle.laws.proofs.Cases.{split}
 use Rattle.laws.proofs.Tabulate.{tabulate-ext}
 use Rattle.laws.proofs.Lists.{set-tabulate}
@@ -27,7 +27,7 @@ use Rattle.pools.specs.Events.{poolCount}
 use Rattle.pools.specs.Schedule.{used, usedPools, maxKeyRequests, countRequest}
 use Rattle.pools.specs.State.{poolAt}
 use Rattle.pools.specs.Effects.{Effect, withPool, withGenerator, withRequest, addEvent, nextReseed, digests, emptiedPools, poolReseed, reseedIfDue, emptiedBy, randomData, reseedWithSeed}
-use Rattle.reference.specs.Reference.{Reference, select, consumedAt, contents, poolContents, dueAt, appendEvent, withState, requestedState, scheduledDigests, referenceReseed, referenceReseedIfDue, referenceCount, referenceRequest}
+use Rattle.reference.specs.Reference.{Reference, consumedAt, contents, poolContents, dueAt, appendEvent, withState, requestedState, scheduledDigests, referenceReseed, referenceReseedIfDue, referenceCount, referenceRequest}
 use Rattle.reference.specs.Agreement.{concrete}
 use Rattle.reference.proofs.Schedule.{used-mod, used-pools-mod, joined-used}
 use Rattle.reference.proofs.Invariant.{Sound, count-is, contents-event, contents-used, contents-unused, contents-consumed}

@@ -7,9 +7,10 @@ use Prim.Native.Nat.{ℕ, zero, suc, _+_, _≤_, _<_}
 use native.Mathlib.Numerals.{add-one}
 use native.Mathlib.Omega.{arith}
 use lib.Dec.{eqb, eqb·suc-zero}
-use Rattle.laws.specs.Lists.{joined}
+use Rattle.laws.specs.Lists.{joined, select}
 use Rattle.laws.proofs.Cases.{split}
 use Rattle.laws.proofs.Lists.{joined-map}
+use Rattle.laws.proofs.Selections.{select-append}
 use Rattle.hash.specs.ShaD.{D, poolOf, poolDigest}
 use Rattle.hash.proofs.Laws.{pool-digest-is}
 use Rattle.pools.specs.declared.Fortuna.{Fortuna}
@@ -20,12 +21,12 @@ use Rattle.pools.specs.Effects.{Effect, unchanged, nextReseed, digests}
 use Rattle.pools.specs.Calls.{Call, event, readingOf, inputBuffer, Outcome, effectOf, outcome, stateFrom}
 use Rattle.quotas.specs.Entries.{Entry, entryNumber, entryStep}
 use Rattle.reference.specs.Runs.{stateAfter}
-use Rattle.reference.specs.Reference.{Accepted, Reference, empty, select, pending, consumedAt, contents, poolContents, appendEvent, referenceReseed, referenceEffect, referenceStep, referenceAfter, referenceEntryNumber}
+use Rattle.reference.specs.Reference.{Accepted, Reference, empty, pending, consumedAt, contents, poolContents, appendEvent, referenceReseed, referenceEffect, referenceStep, referenceAfter, referenceEntryNumber}
 use Rattle.reference.specs.Agreement.{concrete, concreteOutcome}
 use Rattle.reference.specs.Timer.{requests}
 use Rattle.reference.specs.Provenance.{Piece, PoolUse, erased, Traced, tracedFresh, dueFor, putsInto, useOf, nextUses, tracedReseed, tracedAccepted, tracedStep, tracedFrom, traced, pieceOf, scheduledUse, scheduledUses}
 use Rattle.reference.proofs.Schedule.{joined-used}
-use Rattle.reference.proofs.Bookings.{select-append, new-pending, new-consumed-later, pending-consumed, pending-gone, pending-stays}
+use Rattle.reference.proofs.Bookings.{new-pending, new-consumed-later, pending-consumed, pending-gone, pending-stays}
 use Rattle.reference.proofs.Invariant.{Sound, sound-empty, events-noted}
 use Rattle.reference.proofs.Concrete.{pool-concrete, due-concrete}
 use Rattle.reference.proofs.Simulation.{used-concrete, used-pools-concrete}

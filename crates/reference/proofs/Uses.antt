@@ -1,101 +1,34 @@
 -- What the schedule's uses of pools say of one call: its bytes stand in a use exactly where an accepted event of its place is booked for it.
 -- Assumes nothing.
 use mathlib.Core.Path.{_≡_, refl, sym, ap, subst, _∙_}
-use mathlib.Core.Logic.{_⊎_, inl, inr, ⊎-elim}
-use mathlib.Core.Bool.{Bool, true, false, cond}
-use mathlib.Core.List.{List, [], _∷_, _++_, map, List·Memᴰ, List·Memᴰ·head, List·Memᴰ·tail, List·Memᴰ·not-nil, List·Memᴰ·cases-cons, Memᴰ·append-left, Memᴰ·append-right, List·Memᴰ·append-cases, List·Memᴰ·eq-of-singleton}
-use Prim.Native.Nat.{ℕ, zero, suc, _+_, _≤_, _<_}
+use mathlib.Core.Bool.{true, cond}
+use mathlib.Core.List.{List, [], _∷_, map, List·Memᴰ, List·Memᴰ·head, List·Memᴰ·eq-of-singleton}
+use Prim.Native.Nat.{ℕ, zero, suc, _≤_, _<_}
 use native.Mathlib.Omega.{arith}
 use lib.Dec.{eqb}
-use borrow.Author.Tests.{eqb-true, eqb-false, eq-eqb}
-use Rattle.laws.specs.Lists.{joined}
-use Rattle.laws.proofs.Cases.{by-test, both}
+use borrow.Author.Tests.{eqb-true, eq-eqb}
+use Rattle.laws.specs.Lists.{joined, select}
+use Rattle.laws.proofs.Cases.{both}
+use Rattle.laws.proofs.Selections.{mem-select, select-mem, mem-joined, joined-mem, mem-parts, parts-mem}
 use Rattle.pools.specs.Events.{poolCount}
 use Rattle.pools.specs.Schedule.{used, usedBelow, usedPools}
 use Rattle.quotas.specs.Entries.{Entry}
-use Rattle.reference.specs.Reference.{Accepted, scheduled, select, consumedAt}
+use Rattle.reference.specs.Reference.{Accepted, scheduled, consumedAt}
 use Rattle.reference.specs.Provenance.{Piece, PoolUse, traced, pieceOf, scheduledUse, scheduledUses, EntersAt}
 use Rattle.reference.proofs.Schedule.{scheduled-later, scheduled-used}
 
--- ---- membership
-
--- an accepted event that passes a test, and its piece
-record Selected (t : Accepted → Bool) (es : List Accepted) (p : Piece) : Type 0 where
-  event : Accepted
-  listed : List·Memᴰ event es
-  passes : t event ≡ true
-  is : p ≡ pieceOf event
-
-mem-select : (t : Accepted → Bool) (es : List Accepted) (p : Piece) → List·Memᴰ p (map pieceOf (select t es)) → Selected t es p
-unfolding select
-mem-select t [] p m = absurd (List·Memᴰ·not-nil m)
-mem-select t (x ∷ es) p m = go (t x) refl m (mem-select t es p)
-  where
-    below : Selected t es p → Selected t (x ∷ es) p
-    below r = record { event = r .event; listed = List·Memᴰ·tail (r .listed); passes = r .passes; is = r .is }
-
-    go :
-        (b : Bool) → t x ≡ b → List·Memᴰ p (map pieceOf (cond b (x ∷ select t es) (select t es))) →
-        (List·Memᴰ p (map pieceOf (select t es)) → Selected t es p) → Selected t (x ∷ es) p
-    go true q n r =
-        ⊎-elim (λ h. record { event = x; listed = List·Memᴰ·head refl; passes = q; is = h }) (λ h. below (r h)) (List·Memᴰ·cases-cons n)
-    go false q n r = below (r n)
-
-select-mem :
-    (t : Accepted → Bool) (es : List Accepted) (e : Accepted) → List·Memᴰ e es → t e ≡ true →
-    List·Memᴰ (pieceOf e) (map pieceOf (select t es))
-unfolding select
-select-mem t [] e m h = absurd (List·Memᴰ·not-nil m)
-select-mem t (x ∷ es) e m h =
-    ⊎-elim
-    (λ q.
-    subst (λ b. List·Memᴰ (pieceOf e) (map pieceOf (cond b (x ∷ select t es) (select t es)))) (sym (ap t (sym q) ∙ h))
-    (List·Memᴰ·head (ap pieceOf q)))
-    (λ n. here (t x) (select-mem t es e n h))
-    (List·Memᴰ·cases-cons m)
-  where
-    here :
-        (b : Bool) → List·Memᴰ (pieceOf e) (map pieceOf (select t es)) →
-        List·Memᴰ (pieceOf e) (map pieceOf (cond b (x ∷ select t es) (select t es)))
-    here true n = List·Memᴰ·tail n
-    here false n = n
-
-mem-joined :
-    (es : List Accepted) (n : ℕ) (l : List ℕ) (u : PoolUse) → List·Memᴰ u (joined (scheduledUse es n) l) →
-    (i : ℕ) × List·Memᴰ u (scheduledUse es n i)
-unfolding joined
-mem-joined es n [] u m = absurd (List·Memᴰ·not-nil m)
-mem-joined es n (i ∷ l) u m =
-    ⊎-elim (λ h. (i, h)) (λ h. mem-joined es n l u h) (List·Memᴰ·append-cases (scheduledUse es n i) m)
-
-joined-mem :
-    (es : List Accepted) (n i : ℕ) (l : List ℕ) (u : PoolUse) → List·Memᴰ i l → List·Memᴰ u (scheduledUse es n i) →
-    List·Memᴰ u (joined (scheduledUse es n) l)
-unfolding joined
-joined-mem es n i [] u m h = absurd (List·Memᴰ·not-nil m)
-joined-mem es n i (j ∷ l) u m h =
-    ⊎-elim
-    (λ q. Memᴰ·append-left _ (subst (λ k. List·Memᴰ u (scheduledUse es n k)) q h))
-    (λ k. Memᴰ·append-right (scheduledUse es n j) (joined-mem es n i l u k h))
-    (List·Memᴰ·cases-cons m)
+-- ---- the uses of pools at the reseeds up to r
 
 -- the pools used at reseed n
 used-mem : (n i k : ℕ) → i < k → used n i ≡ true → List·Memᴰ i (usedBelow n k)
 unfolding usedBelow
-used-mem n i zero h u = absurd (omega arith)
-used-mem n i (suc k) h u = go (used-mem n i k)
-  where
-    go : (i < k → used n i ≡ true → List·Memᴰ i (usedBelow n k)) → List·Memᴰ i (usedBelow n k ++ cond (used n k) (k ∷ []) [])
-    go r =
-        by-test
-        (eqb i k)
-        _
-        (λ q.
-        let e = eqb-true i k q in
-        Memᴰ·append-right (usedBelow n k) (subst (λ b. List·Memᴰ i (cond b (k ∷ []) [])) (sym (ap (used n) (sym e) ∙ u)) (List·Memᴰ·head e)))
-        (λ q. Memᴰ·append-left _ (r (omega (arith, eqb-false i k q)) u))
+used-mem n i k h u =
+    parts-mem (λ j. cond (used n j) (j ∷ []) []) (usedBelow n) refl (λ j. refl) k i i h
+    (subst (λ b. List·Memᴰ i (cond b (i ∷ []) [])) (sym u) (List·Memᴰ·head refl))
 
--- ---- the uses of pools at the reseeds up to r
+-- the uses at reseed n + 1
+abbrev usesAt : List Accepted → ℕ → List PoolUse
+usesAt es n = joined (scheduledUse es (suc n)) (usedPools (suc n))
 
 record Listed (es : List Accepted) (r : ℕ) (u : PoolUse) : Type 0 where
   n : ℕ
@@ -105,36 +38,19 @@ record Listed (es : List Accepted) (r : ℕ) (u : PoolUse) : Type 0 where
 
 listed : (es : List Accepted) (r : ℕ) (u : PoolUse) → List·Memᴰ u (scheduledUses es r) → Listed es r u
 unfolding scheduledUses
-listed es zero u m = absurd (List·Memᴰ·not-nil m)
-listed es (suc r) u m = go (listed es r u) (List·Memᴰ·append-cases (scheduledUses es r) m)
-  where
-    go :
-        (List·Memᴰ u (scheduledUses es r) → Listed es r u) →
-        List·Memᴰ u (scheduledUses es r) ⊎ List·Memᴰ u (joined (scheduledUse es (suc r)) (usedPools (suc r))) → Listed es (suc r) u
-    go f (inl h) = let y = f h in record { n = y .n; i = y .i; reached = omega (arith, y .reached); is = y .is }
-    go f (inr h) =
-        let y = mem-joined es (suc r) (usedPools (suc r)) u h in
-        record { n = suc r; i = y .0; reached = omega arith; is = y .1 }
+listed es r u m =
+    let at = mem-parts (usesAt es) (scheduledUses es) refl (λ n. refl) r u m in
+    let y = mem-joined (scheduledUse es (suc (at .0))) (usedPools (suc (at .0))) u (at .2) in
+    record { n = suc (at .0); i = y .0; reached = omega (arith, at .1); is = y .1 }
 
 uses-mem :
     (es : List Accepted) (n i : ℕ) (u : PoolUse) → i < poolCount → used n i ≡ true → List·Memᴰ u (scheduledUse es n i) →
     (r : ℕ) → 0 < n → n ≤ r → List·Memᴰ u (scheduledUses es r)
 unfolding scheduledUses usedPools
-uses-mem es n i u h v m zero p k = absurd (omega arith)
-uses-mem es n i u h v m (suc r) p k = go (uses-mem es n i u h v m r p)
-  where
-    go :
-        (n ≤ r → List·Memᴰ u (scheduledUses es r)) →
-        List·Memᴰ u (scheduledUses es r ++ joined (scheduledUse es (suc r)) (usedPools (suc r)))
-    go f =
-        by-test
-        (eqb n (suc r))
-        _
-        (λ q.
-        Memᴰ·append-right (scheduledUses es r)
-        (subst (λ s. List·Memᴰ u (joined (scheduledUse es s) (usedPools s))) (eqb-true n (suc r) q)
-        (joined-mem es n i (usedBelow n poolCount) u (used-mem n i poolCount h v) m)))
-        (λ q. Memᴰ·append-left _ (f (omega (arith, eqb-false n (suc r) q))))
+uses-mem es zero i u h v m r p k = absurd (omega arith)
+uses-mem es (suc n) i u h v m r p k =
+    parts-mem (usesAt es) (scheduledUses es) refl (λ n. refl) r n u (omega arith)
+    (joined-mem (scheduledUse es (suc n)) (usedBelow (suc n) poolCount) i u (used-mem (suc n) i poolCount h v) m)
 
 -- ---- when a call's bytes enter
 
@@ -156,15 +72,15 @@ module _ (calls : List Entry) (es : List Accepted) (r : ℕ) (uses : traced call
       let y = listed es r (a .poolUse) (subst (List·Memᴰ (a .poolUse)) uses (a .made)) in
       let is : a .poolUse ≡ record { reseedNumber = y .n; pool = y .i; pieces = map pieceOf (select (consumedAt (y .n) (y .i)) es) } =
       List·Memᴰ·eq-of-singleton (y .is) in
-      let c = mem-select (consumedAt (y .n) (y .i)) es (a .piece) (subst (List·Memᴰ (a .piece)) (ap (λ (u : PoolUse). u .pieces) is) (a .inside)) in
-      let booked = both (eqb (c .event .pool) (y .i)) (eqb (scheduled (c .event)) (y .n)) (c .passes) in
+      let c = mem-select pieceOf (consumedAt (y .n) (y .i)) es (a .piece) (subst (List·Memᴰ (a .piece)) (ap (λ (u : PoolUse). u .pieces) is) (a .inside)) in
+      let booked = both (eqb (c .element .pool) (y .i)) (eqb (scheduled (c .element)) (y .n)) (c .passes) in
       let nn : n ≡ y .n = sym (a .reseedNumber) ∙ ap (λ (u : PoolUse). u .reseedNumber) is in
       record {
-        event = c .event;
+        event = c .element;
         listed = c .listed;
         own = omega (arith, ap (λ (p : Piece). p .place) (c .is), a .own);
-        pool = sym (a .pool) ∙ ap (λ (u : PoolUse). u .pool) is ∙ sym (eqb-true (c .event .pool) (y .i) (booked .0));
-        reseedNumber = nn ∙ sym (eqb-true (scheduled (c .event)) (y .n) (booked .1));
+        pool = sym (a .pool) ∙ ap (λ (u : PoolUse). u .pool) is ∙ sym (eqb-true (c .element .pool) (y .i) (booked .0));
+        reseedNumber = nn ∙ sym (eqb-true (scheduled (c .element)) (y .n) (booked .1));
         reached = omega (arith, nn, y .reached);
         piece = c .is;
       }
@@ -184,7 +100,7 @@ module _ (calls : List Entry) (es : List Accepted) (r : ℕ) (uses : traced call
         pool = refl;
         piece = pieceOf e;
         inside =
-            select-mem (consumedAt (scheduled e) (e .pool)) es e m
+            select-mem pieceOf (consumedAt (scheduled e) (e .pool)) es e m
             (unfold consumedAt in rw (eq-eqb (e .pool) (e .pool) refl, eq-eqb (scheduled e) (scheduled e) refl));
         own = omega arith;
       }

@@ -8,7 +8,7 @@ use mathlib.Core.List.{List, [], _∷_, _++_, map, List·Memᴰ}
 use Prim.Native.Nat.{ℕ, zero, suc, _+_, _*_, _/_, _^_, _≤_, _<_}
 use lib.Dec.{ltb, eqb}
 use lib.ListN.{length}
-use Rattle.laws.specs.Lists.{joined}
+use Rattle.laws.specs.Lists.{joined, select}
 use Rattle.hash.specs.ShaD.{D, poolOf}
 use Rattle.generator.specs.Steps.{GeneratorState, decode, encode, reseed, pseudoRandomData}
 use Rattle.generator.specs.declared.Generator.{Generator}
@@ -22,7 +22,7 @@ use Rattle.pools.specs.Draws.{Drawn, trySize, tries, shuffled}
 use Rattle.pools.specs.Calls.{Call, event, request, update, write, draw, shuffle, readingOf, Outcome}
 use Rattle.quotas.specs.Entries.{Quotas, Entry, taking, entryNumber, entryStep}
 use Rattle.reference.specs.Runs.{stateAfter}
-use Rattle.reference.specs.Reference.{Accepted, select, consumedAt, referenceAfter}
+use Rattle.reference.specs.Reference.{Accepted, consumedAt, referenceAfter}
 use Rattle.reference.specs.Timer.{requests, reseedsAfter}
 
 -- the bytes that the call at a place put into its pool

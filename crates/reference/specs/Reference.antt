@@ -10,7 +10,7 @@ use mathlib.Core.List.{List, [], _∷_, _++_}
 use Prim.Native.Nat.{ℕ, _+_, _-_, _*_, _/_, _%_, _^_}
 use lib.Dec.{eqb, leb, ltb}
 use lib.ListN.{length}
-use Rattle.laws.specs.Lists.{joined}
+use Rattle.laws.specs.Lists.{joined, select}
 use Rattle.hash.specs.ShaD.{D}
 use Rattle.generator.specs.Steps.{GeneratorState, initial, reseed}
 use Rattle.generator.specs.Closed.{closedRandomData}
@@ -50,11 +50,6 @@ scheduledReseed i r = 2 ^ i * (r / 2 ^ i + 1)
 
 unfoldable pub scheduled : Accepted → ℕ
 scheduled e = scheduledReseed (e .pool) (e .reseedsBefore)
-
--- the events that pass a test, in order
-unfoldable pub select : (Accepted → Bool) → List Accepted → List Accepted
-select t [] = []
-select t (e ∷ es) = cond (t e) (e ∷ select t es) (select t es)
 
 -- of pool i, booked above n; of pool i, booked for n
 unfoldable pub pending : ℕ → ℕ → Accepted → Bool
