@@ -154,7 +154,7 @@ module _ (test : ℕ → Bool) (i : ℕ) where
     event-adds =
         let c = taking q (event source pool content) in
         let accepted : referenceEntryNumber (referenceAfter before) c ≡ 0 = sym (same-number before c) ∙ eqb-true _ 0 t in
-        ap (λ (es : List Accepted). contents (select passes es)) (event-added before q source pool content [] accepted)
+        ap (λ (es : List Accepted). contents (select passes es)) (event-added before q source pool content accepted)
         ∙ ap contents (select-append passes (referenceAfter before .events) noted)
         ∙ contents-append (select passes (referenceAfter before .events)) (cond (passes noted) (noted ∷ []) [])
         ∙ ap (λ (l : List ℕ). bytesAfter before ++ l) (own-bytes (passes noted) ∙ told)

@@ -16,6 +16,7 @@ pub mod Outcomes
 pub mod Numbers
 pub mod EachTry
 pub mod RisingRuns
+pub mod Runs
 pub mod OneReseed
 pub mod Passing
 pub mod Tries

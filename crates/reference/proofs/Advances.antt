@@ -97,19 +97,6 @@ effect-reseeds place b c = shape-reseeds place b c _ (effect-shape place b c)
 
 -- ---- refused or not
 
--- the effect of an accepted call
-pub outcome-done : {S : Type 0} (n : ℕ) (buffer : List ℕ) (s : S) (done : Effect S) → n ≡ 0 → effectOf n buffer s done ≡ done
-unfolding effectOf
-outcome-done n buffer s done e = rw e
-
--- what holds of the state found, and of the state left if accepted, holds of the state left
-pub outcome-keeps :
-    {S : Type 0} (P : S → Type 0) (n : ℕ) (buffer : List ℕ) (s : S) (done : Effect S) →
-    P s → (n ≡ 0 → P (done .next)) → P (effectOf n buffer s done .next)
-unfolding effectOf unchanged
-outcome-keeps P zero buffer s done h k = k refl
-outcome-keeps P (suc n) buffer s done h k = rw (eqb·suc-zero n) h
-
 outcome-reseeds :
     (n : ℕ) (buffer : List ℕ) (b : Reference) (done : Effect Reference) →
     done .next .reseeds ≡ b .reseeds + cond (ltb 0 (done .emptied)) 1 0 →

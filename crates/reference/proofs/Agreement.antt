@@ -1,15 +1,14 @@
 -- In every run the station's outcomes and states are those that the reference model says, and a run is its calls' steps.
 -- Assumes nothing.
 use mathlib.Core.Path.{_≡_, refl, sym, ap, ap₂, _∙_}
-use mathlib.Core.Bool.{Bool, true, false, cond}
-use mathlib.Core.List.{List, [], _∷_, _++_, map}
-use Prim.Native.Nat.{ℕ, suc, _-_, _*_, _<_}
+use mathlib.Core.Bool.{Bool, false}
+use mathlib.Core.List.{List, [], _∷_, map}
+use Prim.Native.Nat.{ℕ, _-_, _*_, _<_}
 use native.Mathlib.Omega.{arith}
-use lib.Dec.{eqb, ltb}
+use lib.Dec.{ltb}
 use lib.ListN.{length}
-use borrow.Author.Tests.{ltb-true, ltb-false, eqb-true}
-use Rattle.laws.specs.Refusals.{guarded}
-use Rattle.laws.proofs.Cases.{by-test, cond-cong}
+use borrow.Author.Tests.{ltb-true, ltb-false}
+use Rattle.laws.proofs.Cases.{by-test}
 use Rattle.laws.proofs.Lists.{replicate-tabulate}
 use Rattle.hash.specs.ShaD.{emptyPool, poolOf}
 use Rattle.hash.proofs.Laws.{pool-empty}
@@ -20,10 +19,11 @@ use Rattle.pools.specs.Events.{poolCount, eventBytes}
 use Rattle.pools.specs.Schedule.{maxKeyRequests}
 use Rattle.pools.specs.State.{fresh, counterOf, malformed, due}
 use Rattle.pools.specs.Refusals.{andThen, seedSize, maxTries, requestNumber, updateNumber, writeNumber, drawNumber, shuffleNumber}
-use Rattle.pools.specs.Effects.{Effect, unchanged, writeSeed}
+use Rattle.pools.specs.Effects.{unchanged, writeSeed}
 use Rattle.pools.specs.Draws.{Drawn, tries, shuffled, tryAt}
-use Rattle.pools.specs.Calls.{Call, event, request, update, write, draw, shuffle, inputBuffer, inputNumber, callNumber, callEffect, callFound, callValue, Outcome, effectOf, outcome, runFrom, stateFrom}
-use Rattle.pools.proofs.Chains.{then-cong, both-passed}
+use Rattle.pools.specs.Calls.{Call, event, request, update, write, draw, shuffle, inputBuffer, inputNumber, callNumber, callEffect, callFound, callValue, Outcome, outcome, runFrom, stateFrom}
+use Rattle.pools.proofs.Chains.{both-passed}
+use Rattle.pools.proofs.Runs.{outcome-keeps, outcome-agrees, state-keeps, run-agrees, state-agrees, run-more, state-more}
 use Rattle.quotas.specs.Entries.{Quotas, Entry, entryNumber, entryStep}
 use Rattle.quotas.proofs.Entries.{entry-number}
 use Rattle.reference.specs.Runs.{run, stateAfter, listsLeft}
@@ -36,7 +36,6 @@ use Rattle.reference.proofs.Concrete.{size-concrete, counter-concrete, 
 use Rattle.pools.proofs.Acceptance.{not-spent, event-passed, event-room, event-size, request-room, write-room, update-room, draw-passed, shuffle-passed}
 use Rattle.pools.proofs.Gains.{length-event}
 use Rattle.pools.proofs.EachTry.{idle-shuffle}
-use Rattle.reference.proofs.Advances.{outcome-keeps}
 use Rattle.reference.proofs.Simulation.{concreteEffect, add-event-concrete}
 use Rattle.reference.proofs.Requests.{request-agrees, request-sound, update-agrees, update-sound}
 use Rattle.reference.proofs.Carried.{carried}
@@ -129,32 +128,7 @@ module _ (b : Reference) (s : Sound b) where
   effect-sound place (draw t n d) e = drawn-sound t n d e
   effect-sound place (shuffle t list) e = shuffled-agree t list e .1
 
--- ---- refused or not
-
-module _ (b : Reference) (buffer : List ℕ) (n m : ℕ) (e : n ≡ m) where
-  effect-concrete : (x : Effect Fortuna) (y : Effect Reference) → (m ≡ 0 → x ≡ concreteEffect y)
-      → effectOf n buffer (concrete b) x ≡ concreteEffect (effectOf m buffer b y)
-  unfolding effectOf
-  effect-concrete x y h = ap (λ (k : ℕ). guarded k x (unchanged buffer (concrete b))) e ∙ go (eqb m 0) (λ t. h (eqb-true m 0 t))
-    where
-      go : (t : Bool) → (t ≡ true → x ≡ concreteEffect y)
-          → cond t x (unchanged buffer (concrete b)) ≡ concreteEffect (cond t y (unchanged buffer b))
-      go true f = f refl
-      go false f = unfold unchanged concreteEffect in refl
-
-  -- what counts only where the call is not refused
-  guarded-same : (v w : ℕ) → (m ≡ 0 → v ≡ w) → guarded n v 0 ≡ guarded m w 0
-  guarded-same v w h = ap (λ (k : ℕ). guarded k v 0) e ∙ cond-cong (eqb m 0) (λ t. h (eqb-true m 0 t)) (λ t. refl)
-
-  outcome-concrete : (f g : Bool) (v w : ℕ) (x : Effect Fortuna) (y : Effect Reference)
-      → (m ≡ 0 → f ≡ g) → (m ≡ 0 → v ≡ w) → (m ≡ 0 → x ≡ concreteEffect y)
-      → outcome n f v buffer (concrete b) x ≡ concreteOutcome (outcome m g w buffer b y)
-  unfolding outcome concreteOutcome concreteEffect
-  outcome-concrete f g v w x y p q h = λ i. record {
-    number = (ap (λ (k : ℕ). andThen k (cond f 0 33)) e ∙ then-cong m (cond f 0 33) (cond g 0 33) (λ z. ap (λ (t : Bool). cond t 0 33) (p z))) i;
-    value = guarded-same v w q i;
-    effect = effect-concrete x y h i;
-  }
+-- ---- a step
 
 -- with the list that a call takes, or without one
 pub entry-agrees : (b : Reference) → Sound b → (e : Entry) → entryNumber (concrete b) e ≡ referenceEntryNumber b e
@@ -172,10 +146,10 @@ own-accepted b e z =
     both-passed (byRecords (e .quotas) c) (referenceNumber b c) (both-passed (inputNumber c) _ z .1) .1
 
 pub step-agrees : (place : ℕ) (b : Reference) → Sound b → (e : Entry) → entryStep (concrete b) e ≡ concreteOutcome (referenceStep place b e)
-unfolding entryStep referenceStep
+unfolding entryStep referenceStep concreteOutcome concreteEffect
 step-agrees place b s e =
     let c = e .call in
-    outcome-concrete b (inputBuffer c) _ _ (entry-agrees b s e) _ _ _ _ _ _
+    outcome-agrees concrete b (inputBuffer c) _ _ (entry-agrees b s e) _ _ _ _ _ _
     (λ z. found-agrees b s c (own-accepted b e z))
     (λ z. value-agrees b s c (own-accepted b e z))
     (λ z. effect-agrees b s place c (own-accepted b e z))
@@ -184,40 +158,12 @@ pub step-sound : (place : ℕ) (b : Reference) → Sound b → (e : Entry) → S
 unfolding referenceStep outcome
 step-sound place b s e = outcome-keeps Sound _ (inputBuffer (e .call)) b _ s (λ z. effect-sound b s place (e .call) (own-accepted b e z))
 
-pub next-agrees : (place : ℕ) (b : Reference) → Sound b → (c : Entry)
-    → entryStep (concrete b) c .effect .next ≡ concrete (referenceStep place b c .effect .next)
-unfolding concreteOutcome
-next-agrees place b s c = ap (λ (o : Outcome Fortuna). o .effect .next) (step-agrees place b s c)
-
 -- ---- every run
 
-pub run-agrees : (calls : List Entry) (place : ℕ) (b : Reference) → Sound b
-    → runFrom (λ place. entryStep) place (concrete b) calls ≡ map concreteOutcome (runFrom referenceStep place b calls)
-unfolding runFrom
-run-agrees [] place b s = refl
-run-agrees (c ∷ calls) place b s =
-    ap₂ {B = List (Outcome Fortuna)} (λ (o : Outcome Fortuna) l. o ∷ l)
-    (step-agrees place b s c)
-    (ap (λ (x : Fortuna). runFrom (λ place. entryStep) (suc place) x calls) (next-agrees place b s c)
-    ∙ run-agrees calls (suc place) (referenceStep place b c .effect .next) (step-sound place b s c))
-
-pub state-agrees : (calls : List Entry) (place : ℕ) (b : Reference) → Sound b
-    → stateFrom (λ place. entryStep) place (concrete b) calls ≡ concrete (stateFrom referenceStep place b calls)
-unfolding stateFrom
-state-agrees [] place b s = refl
-state-agrees (c ∷ calls) place b s =
-    ap (λ (x : Fortuna). stateFrom (λ place. entryStep) (suc place) x calls) (next-agrees place b s c)
-    ∙ state-agrees calls (suc place) (referenceStep place b c .effect .next) (step-sound place b s c)
-
 -- the model is sound after every list of calls
-pub sound-from : (calls : List Entry) (place : ℕ) (b : Reference) → Sound b → Sound (stateFrom referenceStep place b calls)
-unfolding stateFrom
-sound-from [] place b s = s
-sound-from (c ∷ calls) place b s = sound-from calls (suc place) (referenceStep place b c .effect .next) (step-sound place b s c)
-
 pub sound-after : (calls : List Entry) → Sound (referenceAfter calls)
 unfolding referenceAfter
-sound-after calls = sound-from calls 0 empty sound-empty
+sound-after calls = state-keeps referenceStep Sound step-sound calls 0 empty sound-empty
 
 -- ---- the fresh state
 
@@ -249,42 +195,34 @@ run-lists : (calls : List Entry) → listsLeft calls (run calls) ≡ listsAfter 
 unfolding run
 run-lists calls = lists-left calls 0 fresh
 
+run-concrete : (calls : List Entry) → run calls ≡ map concreteOutcome (referenceRun calls)
+unfolding run referenceRun concreteOutcome
+run-concrete calls =
+    ap (λ (s : Fortuna). runFrom (λ place. entryStep) 0 s calls) fresh-concrete
+    ∙ run-agrees concrete (λ place. entryStep) referenceStep Sound step-sound step-agrees calls 0 empty sound-empty
+
+state-concrete : (calls : List Entry) → stateAfter calls ≡ concrete (referenceAfter calls)
+unfolding stateAfter referenceAfter concreteOutcome
+state-concrete calls =
+    ap (λ (s : Fortuna). stateFrom (λ place. entryStep) 0 s calls) fresh-concrete
+    ∙ state-agrees concrete (λ place. entryStep) referenceStep Sound step-sound step-agrees calls 0 empty sound-empty
+
 pub agrees : (calls : List Entry) → Agrees calls
 agrees calls =
     record {
       fresh-state = fresh-concrete;
-      outcomes = same;
-      lists = run-lists calls ∙ ap (listsAfter calls) same ∙ lists-concrete calls (referenceRun calls);
-      state =
-          unfold stateAfter referenceAfter in
-          ap (λ (s : Fortuna). stateFrom (λ place. entryStep) 0 s calls) fresh-concrete ∙ state-agrees calls 0 empty sound-empty;
+      outcomes = run-concrete calls;
+      lists = run-lists calls ∙ ap (listsAfter calls) (run-concrete calls) ∙ lists-concrete calls (referenceRun calls);
+      state = state-concrete calls;
     }
-  where
-    same : run calls ≡ map concreteOutcome (referenceRun calls)
-    same =
-        unfold run referenceRun in
-        ap (λ (s : Fortuna). runFrom (λ place. entryStep) 0 s calls) fresh-concrete ∙ run-agrees calls 0 empty sound-empty
 
 -- ---- a run is its calls' steps
-
-run-more : (calls : List Entry) (place : ℕ) (s : Fortuna) (c : Entry)
-    → runFrom (λ place. entryStep) place s (calls ++ (c ∷ []))
-    ≡ runFrom (λ place. entryStep) place s calls ++ (entryStep (stateFrom (λ place. entryStep) place s calls) c ∷ [])
-unfolding runFrom stateFrom
-run-more [] place s c = refl
-run-more (x ∷ calls) place s c = ap {B = List (Outcome Fortuna)} (λ l. entryStep s x ∷ l) (run-more calls (suc place) (entryStep s x .effect .next) c)
-
-state-more : (calls : List Entry) (place : ℕ) (s : Fortuna) (c : Entry)
-    → stateFrom (λ place. entryStep) place s (calls ++ (c ∷ [])) ≡ entryStep (stateFrom (λ place. entryStep) place s calls) c .effect .next
-unfolding stateFrom
-state-more [] place s c = refl
-state-more (x ∷ calls) place s c = state-more calls (suc place) (entryStep s x .effect .next) c
 
 pub run-is-steps : RunIsSteps
 run-is-steps =
     record {
       none = unfold run runFrom in refl;
-      more = λ calls c. unfold run stateAfter in run-more calls 0 fresh c;
+      more = λ calls c. unfold run stateAfter in run-more (λ place. entryStep) calls 0 fresh c;
       start = unfold stateAfter stateFrom in refl;
-      left = λ calls c. unfold stateAfter in state-more calls 0 fresh c;
+      left = λ calls c. unfold stateAfter in state-more (λ place. entryStep) calls 0 fresh c;
     }

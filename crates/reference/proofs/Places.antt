@@ -2,19 +2,20 @@
 -- other call puts one there.
 -- Assumes nothing.
 use mathlib.Core.Path.{_≡_, refl, ap, _∙_}
-use mathlib.Core.List.{List, [], _∷_, _++_, List·Memᴰ, List·Memᴰ·head, List·Memᴰ·not-nil, Memᴰ·append-left, Memᴰ·append-right}
-use Prim.Native.Nat.{ℕ, suc, _+_, _≤_, _<_}
-use native.Mathlib.Omega.{arith}
+use mathlib.Core.List.{List, [], _∷_, _++_, List·Memᴰ}
+use Prim.Native.Nat.{ℕ, _+_}
 use lib.ListN.{length}
-use Rattle.laws.proofs.Selections.{Every, every-append}
+use Rattle.laws.proofs.Selections.{Every}
 use Rattle.pools.specs.Events.{eventBytes}
 use Rattle.pools.specs.Effects.{Effect}
 use Rattle.pools.specs.Calls.{Call, event, inputBuffer, outcome, stateFrom}
+use Rattle.pools.proofs.Runs as Runs
+use Rattle.pools.proofs.Runs.{outcome-done, outcome-keeps, state-more, after-cut, Grows, stays, gains, record-listed, record-alone}
 use Rattle.quotas.specs.Entries.{Quotas, Entry, taking}
 use Rattle.reference.specs.Reference.{Accepted, Reference, empty, referenceEffect, referenceStep, referenceAfter, referenceEntryNumber}
 use Rattle.reference.specs.Provenance.{NoEvent}
 use Rattle.reference.proofs.Invariant.{events-noted}
-use Rattle.reference.proofs.Advances.{Shape, appended, moved, effect-shape, outcome-done, outcome-keeps}
+use Rattle.reference.proofs.Advances.{Shape, appended, moved, effect-shape}
 
 -- ---- one event more, or none
 
@@ -23,138 +24,85 @@ abbrev pub newEvent : ℕ → Reference → ℕ → ℕ → List ℕ → Accepte
 newEvent place b source pool content =
     record { place = place; pool = pool; bytes = eventBytes source content; reseedsBefore = b .reseeds }
 
-module _ (P : List Accepted → Type 0) (place : ℕ) (b : Reference) (h : P (b .events)) where
-  -- P holds where the call adds its event
-  abbrev Adding : Call → Type 0
-  Adding c =
-      (source pool : ℕ) (content : List ℕ) → c ≡ event source pool content → P (b .events ++ (newEvent place b source pool content ∷ []))
+abbrev noted : Reference → List Accepted
+noted b = b .events
 
-  shape-keeps : (c : Call) (x : Reference) → Adding c → Shape place b c x → P (x .events)
-  shape-keeps c x k (appended source pool content q e) =
-      rw (e, events-noted place b pool (eventBytes source content)) (k source pool content q)
-  shape-keeps c x k (moved _ a) = rw (a .events) h
+abbrev placeOf : Accepted → ℕ
+placeOf e = e .place
 
-  step-keeps : (c : Entry) → (referenceEntryNumber b c ≡ 0 → Adding (c .call)) → P (referenceStep place b c .effect .next .events)
+shape-grows : (place : ℕ) (b : Reference) (c : Call) (x : Reference) → Shape place b c x → Grows placeOf place (b .events) (x .events)
+shape-grows place b c x (appended source pool content q e) =
+    gains (newEvent place b source pool content) refl (ap noted e ∙ events-noted place b pool (eventBytes source content))
+shape-grows place b c x (moved _ a) = stays (a .events)
+
+shape-stays : (place : ℕ) (b : Reference) (c : Entry) (x : Reference) → NoEvent c → Shape place b (c .call) x → x .events ≡ b .events
+shape-stays place b c x none (appended source pool content q e) = absurd (none source pool content q)
+shape-stays place b c x none (moved _ a) = a .events
+
+module _ (place : ℕ) (b : Reference) (c : Entry) where
+  step-grows : Grows placeOf place (b .events) (referenceStep place b c .effect .next .events)
   unfolding referenceStep outcome
-  step-keeps c k =
-      outcome-keeps (λ (x : Reference). P (x .events)) (referenceEntryNumber b c) (inputBuffer (c .call)) b (referenceEffect place b (c .call)) h
-      (λ e. shape-keeps (c .call) _ (k e) (effect-shape place b (c .call)))
+  step-grows =
+      outcome-keeps (λ (x : Reference). Grows placeOf place (b .events) (x .events)) (referenceEntryNumber b c) (inputBuffer (c .call)) b
+      (referenceEffect place b (c .call)) (stays refl) (λ _. shape-grows place b (c .call) _ (effect-shape place b (c .call)))
 
--- ---- what holds of every event
+  -- a call that is refused or is no event adds none
+  step-stays : (referenceEntryNumber b c ≡ 0 → NoEvent c) → referenceStep place b c .effect .next .events ≡ b .events
+  unfolding referenceStep outcome
+  step-stays none =
+      outcome-keeps (λ (x : Reference). x .events ≡ b .events) (referenceEntryNumber b c) (inputBuffer (c .call)) b
+      (referenceEffect place b (c .call)) refl (λ z. shape-stays place b c _ (none z) (effect-shape place b (c .call)))
 
--- what holds of the events at later places goes on
-run-every :
-    (P : Accepted → Type 0) (calls : List Entry) (place : ℕ) (b : Reference) → Every P (b .events) →
-    ((e : Accepted) → place ≤ e .place → P e) → Every P (stateFrom referenceStep place b calls .events)
-unfolding stateFrom
-run-every P [] place b h k = h
-run-every P (c ∷ calls) place b h k =
-    run-every P calls (suc place) (referenceStep place b c .effect .next)
-    (step-keeps (Every P) place b h c (λ _ source pool content _. every-append P (b .events) _ h (k _ (omega arith))))
-    (λ e l. k e (omega arith))
+-- an accepted event adds its own
+step-adds :
+    (place : ℕ) (b : Reference) (q : Quotas) (source pool : ℕ) (content : List ℕ) →
+    referenceEntryNumber b (taking q (event source pool content)) ≡ 0 →
+    referenceStep place b (taking q (event source pool content)) .effect .next .events ≡ b .events ++ (newEvent place b source pool content ∷ [])
+unfolding referenceStep referenceEffect outcome
+step-adds place b q source pool content accepted =
+    ap (λ (o : Effect Reference). o .next .events) (outcome-done _ _ _ _ accepted) ∙ events-noted place b pool (eventBytes source content)
 
--- an event stays
-run-member :
-    (e : Accepted) (calls : List Entry) (place : ℕ) (b : Reference) → List·Memᴰ e (b .events) →
-    List·Memᴰ e (stateFrom referenceStep place b calls .events)
-unfolding stateFrom
-run-member e [] place b m = m
-run-member e (c ∷ calls) place b m =
-    run-member e calls (suc place) (referenceStep place b c .effect .next)
-    (step-keeps (List·Memᴰ e) place b m c (λ _ source pool content _. Memᴰ·append-left _ m))
+-- ---- in a run
 
--- the places are those of the calls so far
-run-below :
-    (calls : List Entry) (place : ℕ) (b : Reference) → Every (λ e. e .place < place) (b .events) →
-    Every (λ e. e .place < place + length calls) (stateFrom referenceStep place b calls .events)
-unfolding stateFrom
-run-below [] place b h e m = omega (arith, h e m)
-run-below (c ∷ calls) place b h e m =
-    omega (
-      arith,
-      run-below calls (suc place) (referenceStep place b c .effect .next)
-          (step-keeps (Every (λ e. e .place < suc place)) place b (λ f n. omega (arith, h f n)) c
-          (λ _ source pool content _. every-append (λ e. e .place < suc place) (b .events) _ (λ f n. omega (arith, h f n)) (omega arith))) e m,
-    )
+no-event : noted empty ≡ []
+unfolding empty
+no-event = refl
 
-pub after-below : (calls : List Entry) → Every (λ e. e .place < length calls) (referenceAfter calls .events)
-unfolding referenceAfter empty
-after-below calls e m = omega (arith, run-below calls 0 empty (unfold empty in λ f n. absurd (List·Memᴰ·not-nil n)) e m)
-
--- ---- a list of calls, cut at one of them
-
-from-append :
-    (xs ys : List Entry) (place : ℕ) (b : Reference) →
-    stateFrom referenceStep place b (xs ++ ys) ≡ stateFrom referenceStep (place + length xs) (stateFrom referenceStep place b xs) ys
-unfolding stateFrom
-from-append [] ys place b = ap (λ (p : ℕ). stateFrom referenceStep p b ys) (omega arith)
-from-append (c ∷ xs) ys place b =
-    from-append xs ys (suc place) (referenceStep place b c .effect .next)
-    ∙ ap (λ (p : ℕ). stateFrom referenceStep p (stateFrom referenceStep (suc place) (referenceStep place b c .effect .next) xs) ys) (omega arith)
-
-module _ (before : List Entry) (c : Entry) (later : List Entry) where
-  -- the state that the call leaves
-  left : Reference
-  left = referenceStep (length before) (referenceAfter before) c .effect .next
-
-  after-cut : referenceAfter (before ++ (c ∷ later)) ≡ stateFrom referenceStep (suc (length before)) left later
-  unfolding referenceAfter left stateFrom
-  after-cut =
-      from-append before (c ∷ later) 0 empty
-      ∙ ap (λ (p : ℕ). stateFrom referenceStep p (stateFrom referenceStep 0 empty before) (c ∷ later)) (omega arith)
-
+module _ (before : List Entry) (c : Entry) (h : referenceEntryNumber (referenceAfter before) c ≡ 0 → NoEvent c) where
   -- no event stands at the place of a call that is refused or is no event
-  pub none-at :
-      (referenceEntryNumber (referenceAfter before) c ≡ 0 → NoEvent c) →
-      Every (λ e. e .place ≡ length before → ⊥) (referenceAfter (before ++ (c ∷ later)) .events)
-  none-at h =
-      rw after-cut
-      (run-every (λ e. e .place ≡ length before → ⊥) later (suc (length before)) left
-      (unfold left in step-keeps (Every (λ e. e .place ≡ length before → ⊥)) (length before) (referenceAfter before)
-      (λ e m q. omega (arith, after-below before e m)) c (λ k source pool content q. absurd (h k source pool content q)))
-      (λ e l q. omega arith))
+  pub none-at : (later : List Entry) → Every (λ e. e .place ≡ length before → ⊥) (referenceAfter (before ++ (c ∷ later)) .events)
+  unfolding referenceAfter
+  none-at later =
+      Runs.none-at referenceStep noted placeOf step-grows empty no-event before c later (step-stays (length before) (referenceAfter before) c h)
 
--- such a call leaves the events as they were
-pub none-added :
-    (before : List Entry) (c : Entry) → (referenceEntryNumber (referenceAfter before) c ≡ 0 → NoEvent c) →
-    referenceAfter (before ++ (c ∷ [])) .events ≡ referenceAfter before .events
-none-added before c h =
-    rw (after-cut before c [])
-    (unfold left stateFrom in step-keeps (λ (es : List Accepted). es ≡ referenceAfter before .events) (length before) (referenceAfter before) refl c
-    (λ k source pool content q. absurd (h k source pool content q)))
+  -- such a call leaves the events as they were
+  pub none-added : referenceAfter (before ++ (c ∷ [])) .events ≡ referenceAfter before .events
+  unfolding referenceAfter
+  none-added = ap noted (state-more referenceStep before 0 empty c) ∙ step-stays _ (referenceAfter before) c h
 
--- ---- an accepted event
-
-module _ (before : List Entry) (q : Quotas) (source pool : ℕ) (content : List ℕ) (later : List Entry)
+module _ (before : List Entry) (q : Quotas) (source pool : ℕ) (content : List ℕ)
     (accepted : referenceEntryNumber (referenceAfter before) (taking q (event source pool content)) ≡ 0) where
-  -- it is noted, with the R before it
-  abbrev noted : Accepted
-  noted = newEvent (length before) (referenceAfter before) source pool content
+  abbrev this : Entry
+  this = taking q (event source pool content)
 
-  left-events : left before (taking q (event source pool content)) later .events ≡ referenceAfter before .events ++ (noted ∷ [])
-  unfolding left referenceStep referenceEffect outcome
-  left-events =
-      ap (λ (o : Effect Reference). o .next .events) (outcome-done _ _ _ _ accepted)
-      ∙ events-noted (length before) (referenceAfter before) pool (eventBytes source content)
+  -- an accepted event is noted, with the R before it
+  abbrev own : Accepted
+  own = newEvent (length before) (referenceAfter before) source pool content
+
+  left : referenceStep (length before) (referenceAfter before) this .effect .next .events ≡ referenceAfter before .events ++ (own ∷ [])
+  left = step-adds (length before) (referenceAfter before) q source pool content accepted
 
   -- the one event more
-  pub event-added : referenceAfter (before ++ (taking q (event source pool content) ∷ [])) .events ≡ referenceAfter before .events ++ (noted ∷ [])
-  unfolding left
-  event-added = rw (after-cut before (taking q (event source pool content)) []) (unfold stateFrom in left-events)
+  pub event-added : referenceAfter (before ++ (this ∷ [])) .events ≡ referenceAfter before .events ++ (own ∷ [])
+  unfolding referenceAfter
+  event-added = ap noted (after-cut referenceStep before this [] empty) ∙ (unfold stateFrom in left)
 
   -- it is listed
-  pub event-listed : List·Memᴰ noted (referenceAfter (before ++ (taking q (event source pool content) ∷ later)) .events)
-  event-listed =
-      rw (after-cut before (taking q (event source pool content)) later)
-      (run-member noted later (suc (length before)) _ (rw left-events (Memᴰ·append-right (referenceAfter before .events) (List·Memᴰ·head refl))))
+  pub event-listed : (later : List Entry) → List·Memᴰ own (referenceAfter (before ++ (this ∷ later)) .events)
+  unfolding referenceAfter
+  event-listed later = record-listed referenceStep noted placeOf step-grows empty no-event before this later own left
 
   -- and alone at its place
-  pub event-alone :
-      Every (λ e. e .place ≡ length before → e ≡ noted)
-      (referenceAfter (before ++ (taking q (event source pool content) ∷ later)) .events)
-  event-alone =
-      rw (after-cut before (taking q (event source pool content)) later)
-      (run-every (λ e. e .place ≡ length before → e ≡ noted) later (suc (length before)) _
-      (rw left-events (every-append (λ e. e .place ≡ length before → e ≡ noted) (referenceAfter before .events) noted
-      (λ e m q. absurd (omega (arith, after-below before e m))) (λ q. refl)))
-      (λ e l q. absurd (omega arith)))
+  pub event-alone : (later : List Entry) → Every (λ e. e .place ≡ length before → e ≡ own) (referenceAfter (before ++ (this ∷ later)) .events)
+  unfolding referenceAfter
+  event-alone later = record-alone referenceStep noted placeOf step-grows empty no-event before this later own left

@@ -133,7 +133,7 @@ never-enters :
 never-enters before c later h n i a =
     let calls = before ++ (c ∷ later) in
     let y = entering-booked calls (referenceAfter calls .events) (referenceAfter calls .reseeds) (run-tied calls .tags .uses) (length before) n i a in
-    none-at before c later (λ e. h (same-number before c ∙ e)) (y .event) (y .listed) (y .own)
+    none-at before c (λ e. h (same-number before c ∙ e)) later (y .event) (y .listed) (y .own)
 
 module _ (before : List Entry) (q : Quotas) (source pool : ℕ) (content : List ℕ) (later : List Entry)
     (accepted : entryNumber (stateAfter before) (taking q (event source pool content)) ≡ 0) where
@@ -157,12 +157,12 @@ module _ (before : List Entry) (q : Quotas) (source pool : ℕ) (content : List 
   enters-booked n i = (
     λ a.
         let y = entering-booked whole (referenceAfter whole .events) (referenceAfter whole .reseeds) (run-tied whole .tags .uses) (length before) n i a in
-        let e = event-alone before q source pool content later model-accepts (y .event) (y .listed) (y .own) in
+        let e = event-alone before q source pool content model-accepts later (y .event) (y .listed) (y .own) in
         (y .pool ∙ ap (λ (x : Accepted). x .pool) e, y .reseedNumber ∙ ap scheduled e, y .reached),
     λ h.
         subst₂ (EntersAt whole (length before)) (sym (h .1)) (sym (h .0))
         (booked-enters whole (referenceAfter whole .events) (referenceAfter whole .reseeds) (run-tied whole .tags .uses) _
-        (event-listed before q source pool content later model-accepts) one-of-the-pools
+        (event-listed before q source pool content model-accepts later) one-of-the-pools
         (subst (λ k. k ≤ referenceAfter whole .reseeds) (h .1) (h .2))),
   )
 
@@ -170,7 +170,7 @@ module _ (before : List Entry) (q : Quotas) (source pool : ℕ) (content : List 
   unfolding pieceOf
   enters-own n i a =
       let y = entering-booked whole (referenceAfter whole .events) (referenceAfter whole .reseeds) (run-tied whole .tags .uses) (length before) n i a in
-      let e = event-alone before q source pool content later model-accepts (y .event) (y .listed) (y .own) in
+      let e = event-alone before q source pool content model-accepts later (y .event) (y .listed) (y .own) in
       ap (λ (p : Piece). p .bytes) (y .piece) ∙ ap (λ (x : Accepted). x .bytes) e
 
   enters-once :

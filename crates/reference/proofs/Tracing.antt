@@ -6,7 +6,7 @@ use mathlib.Core.List.{List, [], _∷_, _++_, map, append-nil, map-append}
 use Prim.Native.Nat.{ℕ, zero, suc, _+_, _≤_, _<_}
 use native.Mathlib.Numerals.{add-one}
 use native.Mathlib.Omega.{arith}
-use lib.Dec.{eqb, eqb·suc-zero}
+use lib.Dec.{eqb}
 use Rattle.laws.specs.Lists.{joined, select}
 use Rattle.laws.proofs.Cases.{split}
 use Rattle.laws.proofs.Lists.{joined-map}
@@ -16,9 +16,10 @@ use Rattle.hash.proofs.Laws.{pool-digest-is}
 use Rattle.pools.specs.declared.Fortuna.{Fortuna}
 use Rattle.pools.specs.Events.{poolCount, eventBytes}
 use Rattle.pools.specs.Schedule.{used, usedPools}
-use Rattle.pools.specs.State.{poolAt, due}
-use Rattle.pools.specs.Effects.{Effect, unchanged, nextReseed, digests}
-use Rattle.pools.specs.Calls.{Call, event, readingOf, inputBuffer, Outcome, effectOf, outcome, stateFrom}
+use Rattle.pools.specs.State.{fresh, poolAt, due}
+use Rattle.pools.specs.Effects.{nextReseed, digests}
+use Rattle.pools.specs.Calls.{Call, event, readingOf, inputBuffer, Outcome, outcome}
+use Rattle.pools.proofs.Runs.{outcome-beside, from-beside}
 use Rattle.quotas.specs.Entries.{Entry, entryNumber, entryStep}
 use Rattle.reference.specs.Runs.{stateAfter}
 use Rattle.reference.specs.Reference.{Accepted, Reference, empty, pending, consumedAt, contents, poolContents, appendEvent, referenceReseed, referenceEffect, referenceStep, referenceAfter, referenceEntryNumber}
@@ -218,13 +219,6 @@ shape-tags place t b s tied c x (moved p m) =
     subst (λ (r : Traced). Tags r x) (sym (accepted-quiet place t c (dueCall b c) (same-due t b tied c) p))
     (moved-tags t b (readingOf c) s tied (dueCall b c) x m)
 
-outcome-tags :
-    (b : Reference) (buffer : List ℕ) (n : ℕ) (done : Effect Reference) (t m : Traced) → Tags t b → (n ≡ 0 → Tags m (done .next)) →
-    Tags (cond (eqb n 0) m t) (effectOf n buffer b done .next)
-unfolding effectOf unchanged
-outcome-tags b buffer zero done t m h k = k refl
-outcome-tags b buffer (suc n) done t m h k = rw (eqb·suc-zero n) h
-
 step-tied :
     (place : ℕ) (t : Traced) (b : Reference) → Sound b → Tied t b → (c : Entry) →
     Tied (tracedStep place t c) (referenceStep place b c .effect .next)
@@ -245,18 +239,10 @@ step-tied place t b s tied c =
         (λ (n : ℕ). Tags (cond (eqb n 0) (tracedAccepted place t (c .call)) t) (referenceStep place b c .effect .next))
         (sym same-number)
         (unfold referenceStep outcome in
-        outcome-tags b (inputBuffer (c .call)) (referenceEntryNumber b c) (referenceEffect place b (c .call)) t _ (tied .tags)
+        outcome-beside Tags (referenceEntryNumber b c) (inputBuffer (c .call)) b (referenceEffect place b (c .call)) t _ (tied .tags)
         (λ e. shape-tags place t b s tied (c .call) _ (effect-shape place b (c .call))))
 
 -- ---- every run
-
-from-tied :
-    (calls : List Entry) (place : ℕ) (t : Traced) (b : Reference) → Sound b → Tied t b →
-    Tied (tracedFrom place t calls) (stateFrom referenceStep place b calls)
-unfolding tracedFrom stateFrom
-from-tied [] place t b s tied = tied
-from-tied (c ∷ calls) place t b s tied =
-    from-tied calls (suc place) (tracedStep place t c) (referenceStep place b c .effect .next) (step-sound place b s c) (step-tied place t b s tied c)
 
 fresh-tied : Tied tracedFresh empty
 unfolding tracedFresh
@@ -267,16 +253,14 @@ fresh-tied =
     }
 
 pub run-tied : (calls : List Entry) → Tied (traced calls) (referenceAfter calls)
-unfolding traced referenceAfter
-run-tied calls = from-tied calls 0 tracedFresh empty sound-empty fresh-tied
+unfolding traced tracedFrom referenceAfter
+run-tied calls =
+    from-beside tracedStep tracedFrom (λ place t. refl) (λ place t c later. refl) referenceStep (λ (t : Traced) (b : Reference). Sound b × Tied t b)
+    (λ place t b h c. (step-sound place b (h .0) c, step-tied place t b (h .0) (h .1) c)) calls 0 tracedFresh empty (sound-empty, fresh-tied) .1
 
 -- the traced station's state is the station's
-from-state :
-    (calls : List Entry) (place : ℕ) (t : Traced) → tracedFrom place t calls .state ≡ stateFrom (λ place. entryStep) place (t .state) calls
-unfolding tracedFrom stateFrom
-from-state [] place t = refl
-from-state (c ∷ calls) place t = from-state calls (suc place) (tracedStep place t c) ∙ (unfold tracedStep in refl)
-
 pub run-state : (calls : List Entry) → traced calls .state ≡ stateAfter calls
-unfolding traced stateAfter
-run-state calls = from-state calls 0 tracedFresh ∙ (unfold tracedFresh in refl)
+unfolding traced tracedFrom stateAfter
+run-state calls =
+    from-beside tracedStep tracedFrom (λ place t. refl) (λ place t c later. refl) (λ place. entryStep) (λ (t : Traced) (s : Fortuna). t .state ≡ s)
+    (λ place t s h c. unfold tracedStep in ap (λ (x : Fortuna). entryStep x c .effect .next) h) calls 0 tracedFresh fresh (unfold tracedFresh in refl)
