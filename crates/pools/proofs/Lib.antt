@@ -17,6 +17,7 @@ pub mod Numbers
 pub mod EachTry
 pub mod RisingRuns
 pub mod Runs
+pub mod Bookings
 pub mod OneReseed
 pub mod Passing
 pub mod Tries

@@ -10,14 +10,14 @@ use lib.ListN.{length, length-append}
 use borrow.Author.Tests.{eqb-true}
 use Rattle.laws.specs.Lists.{joined, select, allZero}
 use Rattle.laws.proofs.Cases.{by-test}
-use Rattle.laws.proofs.Lists.{joined-append, joined-one, allZero-replicate}
-use Rattle.laws.proofs.Selections.{every-none, every-append, select-append}
+use Rattle.laws.proofs.Lists.{allZero-replicate}
+use Rattle.laws.proofs.Selections.{every-none, every-append}
 use Rattle.hash.specs.ShaD.{maxPoolLength}
 use Rattle.generator.specs.Counter.{maxCounter}
 use Rattle.generator.specs.Steps.{GeneratorState, initial, reseed}
 use Rattle.pools.specs.Schedule.{used, usedPools}
 use Rattle.reference.specs.Reference.{Accepted, Reference, empty, pending, consumedAt, contents, poolContents, dueAt, appendEvent, withState, requestedState, referenceReseed, referenceReseedIfDue, referenceCount}
-use Rattle.reference.proofs.Bookings.{Past, new-pending, pending-consumed, pending-gone, pending-stays}
+use Rattle.reference.proofs.Bookings.{Past, pending-contents, pending-consumed, pending-gone, pending-stays}
 
 pub record Sound (b : Reference) : Type 0 where
   pub past : Past (b .reseeds) (b .events)
@@ -63,19 +63,10 @@ count-is b clock = ap (λ (n : ℕ). cond (dueAt b clock) (length (usedPools n))
 
 pub contents-event : (place : ℕ) (b : Reference) (pool : ℕ) (bytes : List ℕ) (i : ℕ)
     → poolContents (appendEvent place b pool bytes) i ≡ poolContents b i ++ cond (eqb pool i) bytes []
-unfolding poolContents appendEvent contents
+unfolding poolContents appendEvent
 contents-event place b pool bytes i =
     ap (λ (es : List Accepted). contents (select (pending (b .reseeds) i) es)) (events-noted place b pool bytes)
-    ∙ ap contents (select-append (pending (b .reseeds) i) (b .events) e)
-    ∙ joined-append (λ (x : Accepted). x .bytes) (select (pending (b .reseeds) i) (b .events)) (cond (pending (b .reseeds) i e) (e ∷ []) [])
-    ∙ ap (λ (l : List ℕ). poolContents b i ++ l) (ap (λ (t : Bool). contents (cond t (e ∷ []) [])) (new-pending i e) ∙ one (eqb pool i))
-  where
-    e : Accepted
-    e = record { place = place; pool = pool; bytes = bytes; reseedsBefore = b .reseeds }
-
-    one : (t : Bool) → contents (cond t (e ∷ []) []) ≡ cond t bytes []
-    one true = joined-one (λ (x : Accepted). x .bytes) e
-    one false = unfold joined in refl
+    ∙ pending-contents i (b .events) (record { place = place; pool = pool; bytes = bytes; reseedsBefore = b .reseeds })
 
 module _ (b : Reference) (t : ℕ) (p : Past (b .reseeds) (b .events)) where
   pub contents-used : (i : ℕ) → used (b .reseeds + 1) i ≡ true → poolContents (referenceReseed b t) i ≡ []

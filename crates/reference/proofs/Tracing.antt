@@ -2,7 +2,7 @@
 -- Assumes nothing.
 use mathlib.Core.Path.{_≡_, refl, sym, ap, ap₂, subst, fun-ext, _∙_}
 use mathlib.Core.Bool.{Bool, true, false, cond, _&&_}
-use mathlib.Core.List.{List, [], _∷_, _++_, map, append-nil, map-append}
+use mathlib.Core.List.{List, [], _∷_, _++_, map, append-nil}
 use Prim.Native.Nat.{ℕ, zero, suc, _+_, _≤_, _<_}
 use native.Mathlib.Numerals.{add-one}
 use native.Mathlib.Omega.{arith}
@@ -10,7 +10,6 @@ use lib.Dec.{eqb}
 use Rattle.laws.specs.Lists.{joined, select}
 use Rattle.laws.proofs.Cases.{split}
 use Rattle.laws.proofs.Lists.{joined-map}
-use Rattle.laws.proofs.Selections.{select-append}
 use Rattle.hash.specs.ShaD.{D, poolOf, poolDigest}
 use Rattle.hash.proofs.Laws.{pool-digest-is}
 use Rattle.pools.specs.declared.Fortuna.{Fortuna}
@@ -22,12 +21,12 @@ use Rattle.pools.specs.Calls.{Call, event, readingOf, inputBuffer, Outcome, out
 use Rattle.pools.proofs.Runs.{outcome-beside, from-beside}
 use Rattle.quotas.specs.Entries.{Entry, entryNumber, entryStep}
 use Rattle.reference.specs.Runs.{stateAfter}
-use Rattle.reference.specs.Reference.{Accepted, Reference, empty, pending, consumedAt, contents, poolContents, appendEvent, referenceReseed, referenceEffect, referenceStep, referenceAfter, referenceEntryNumber}
+use Rattle.reference.specs.Reference.{Accepted, Reference, empty, pending, contents, poolContents, appendEvent, referenceReseed, referenceEffect, referenceStep, referenceAfter, referenceEntryNumber}
 use Rattle.reference.specs.Agreement.{concrete, concreteOutcome}
 use Rattle.reference.specs.Timer.{requests}
 use Rattle.reference.specs.Provenance.{Piece, PoolUse, erased, Traced, tracedFresh, dueFor, putsInto, useOf, nextUses, tracedReseed, tracedAccepted, tracedStep, tracedFrom, traced, pieceOf, scheduledUse, scheduledUses}
 use Rattle.reference.proofs.Schedule.{joined-used}
-use Rattle.reference.proofs.Bookings.{new-pending, new-consumed-later, pending-consumed, pending-gone, pending-stays}
+use Rattle.reference.proofs.Bookings.{pending-pieces, consumed-new, pending-consumed, pending-gone, pending-stays}
 use Rattle.reference.proofs.Invariant.{Sound, sound-empty, events-noted}
 use Rattle.reference.proofs.Concrete.{pool-concrete, due-concrete}
 use Rattle.reference.proofs.Simulation.{used-concrete, used-pools-concrete}
@@ -127,12 +126,8 @@ unfolding scheduledUses scheduledUse
 uses-event es e zero h = refl
 uses-event es e (suc n) h =
     ap₂ (λ (x y : List PoolUse). x ++ y) (uses-event es e n (omega arith))
-    (joined-used _ _ (suc n) (λ i _ _ k. record { reseedNumber = suc n; pool = i; pieces = map pieceOf (same i k) } ∷ []))
-  where
-    same : (i : ℕ) → select (consumedAt (suc n) i) (es ++ (e ∷ [])) ≡ select (consumedAt (suc n) i) es
-    same i =
-        select-append (consumedAt (suc n) i) es e
-        ∙ rw (new-consumed-later (suc n) i e h) (append-nil (select (consumedAt (suc n) i) es))
+    (joined-used _ _ (suc n)
+    (λ i _ _ k. record { reseedNumber = suc n; pool = i; pieces = map pieceOf (consumed-new i es e (suc n) h k) } ∷ []))
 
 event-tags :
     (place : ℕ) (t : Traced) (b : Reference) (source pool : ℕ) (content : List ℕ) → Tags t b →
@@ -143,11 +138,8 @@ event-tags place t b source pool content g =
       reseeds = unfold appendEvent in g .reseeds;
       pieces = λ i h.
           rw (events-noted place b pool (eventBytes source content))
-          (unfold appendEvent in
-          ap₂ (λ (x y : List Piece). x ++ y) (g .pieces i h) (sym (one i))
-          ∙ sym
-          (ap (map pieceOf) (select-append (pending (b .reseeds) i) (b .events) e)
-          ∙ map-append pieceOf (select (pending (b .reseeds) i) (b .events)) (cond (pending (b .reseeds) i e) (e ∷ []) [])));
+          (unfold appendEvent pieceOf in
+          ap (λ (l : List Piece). l ++ cond (eqb pool i) (pieceOf e ∷ []) []) (g .pieces i h) ∙ sym (pending-pieces i (b .events) e));
       uses =
           rw (events-noted place b pool (eventBytes source content))
           (unfold appendEvent in g .uses ∙ sym (uses-event (b .events) e (b .reseeds) (omega arith)));
@@ -155,16 +147,6 @@ event-tags place t b source pool content g =
   where
     e : Accepted
     e = record { place = place; pool = pool; bytes = eventBytes source content; reseedsBefore = b .reseeds }
-
-    cases : (u : Bool) → map pieceOf (cond u (e ∷ []) []) ≡ cond u (record { place = place; bytes = eventBytes source content } ∷ []) []
-    cases true = unfold pieceOf in refl
-    cases false = refl
-
-    one :
-        (i : ℕ) →
-        map pieceOf (cond (pending (b .reseeds) i e) (e ∷ []) [])
-        ≡ cond (eqb pool i) (record { place = place; bytes = eventBytes source content } ∷ []) []
-    one i = ap (λ (u : Bool). map pieceOf (cond u (e ∷ []) [])) (new-pending i e) ∙ cases (eqb pool i)
 
 -- ---- a request or a seed call
 
