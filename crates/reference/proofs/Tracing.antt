@@ -36,9 +36,14 @@ use Rattle.reference.proofs.Agreement.{entry-agrees, step-agrees, step-
 
 -- ---- pieces
 
+-- the bytes of the pieces of any records, and of accepted events
+pub erased-pieces : {A : Type 0} (piece : A → Piece) (l : List A) → erased (map piece l) ≡ joined (λ (x : A). piece x .bytes) l
+unfolding erased
+erased-pieces piece l = joined-map (λ (p : Piece). p .bytes) piece l
+
 pub erased-map : (es : List Accepted) → erased (map pieceOf es) ≡ contents es
-unfolding erased contents
-erased-map es = joined-map (λ (p : Piece). p .bytes) pieceOf es ∙ (unfold pieceOf in refl)
+unfolding contents pieceOf
+erased-map es = erased-pieces pieceOf es
 
 joined-each :
     {A B C : Type 0} (f : B → List C) (g : A → B) (l : List A) → joined f (joined (λ a. g a ∷ []) l) ≡ joined (λ a. f (g a)) l
