@@ -21,7 +21,7 @@ use Rattle.pools.specs.Calls.{Call, event, request, update, write, draw,
 use Rattle.pools.specs.Promises.{number, callNumbers, CallNumbersLaw, NoneDrawnLaw}
 use Rattle.pools.specs.declared.Fortuna.{Fortuna}
 use Rattle.pools.specs.declared.answer.Answer.{Answer}
-use Rattle.pools.specs.declared.answer.Answer.the-variants.{Done, SourceOutOfRange, PoolOutOfRange, DataLength, RequestTooLong, SeedSize, Malformed, PoolFull, Unseeded, CounterSpent, SlotRange, TryRange, NoneDrawn, BlankSeed, QuotasMalformed, SourceNotListed, OverAllowance}
+use Rattle.pools.specs.declared.answer.Answer.the-variants.{Done, SourceOutOfRange, PoolOutOfRange, DataLength, RequestTooLong, SeedSize, Malformed, PoolFull, Unseeded, CounterSpent, SlotRange, TryRange, NoneDrawn, BlankSeed, QuotasMalformed, SourceNotListed, OverAllowance, StepsSpent}
 use Rattle.pools.proofs.Chains.{then-holds}
 use Rattle.pools.proofs.OneReseed.{first-try, first-shuffle}
 
@@ -99,6 +99,7 @@ answer-small BlankSeed = lit≤ tt
 answer-small QuotasMalformed = lit≤ tt
 answer-small SourceNotListed = lit≤ tt
 answer-small OverAllowance = lit≤ tt
+answer-small StepsSpent = lit≤ tt
 
 -- ---- pools emptied
 

@@ -37,6 +37,17 @@ pub then-cong : (m n n′ : ℕ) → (m ≡ 0 → n ≡ n′) → andThen m n �
 unfolding andThen
 then-cong m n n′ h = cond-cong (eqb m 0) (λ t. h (eqb-true m 0 t)) (λ t. refl)
 
+-- three chains, one after the other
+pub then-then : (m n k : ℕ) → andThen m (andThen n k) ≡ andThen (andThen m n) k
+unfolding andThen
+then-then m n k = by-test (eqb m 0) (andThen m (andThen n k) ≡ andThen (andThen m n) k) (λ t. rw t) (λ t. rw (t, t))
+
+-- the first chain asked a second time, behind another
+pub then-absorbed : (m l n : ℕ) → andThen m (andThen l n) ≡ andThen m (andThen l (andThen m n))
+unfolding andThen
+then-absorbed m l n =
+    by-test (eqb m 0) (andThen m (andThen l n) ≡ andThen m (andThen l (andThen m n))) (λ t. rw t) (λ t. rw t)
+
 -- what holds of each number of two chains holds of the first that applies
 pub then-holds : (P : ℕ → Type 0) (first second : ℕ) → P first → P second → P (andThen first second)
 unfolding andThen

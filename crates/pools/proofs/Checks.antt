@@ -47,3 +47,10 @@ pub checked-all : (s : Fortuna) (f m : Bool) (k : ℕ) → length (s .pools) ≡
     → Checked (s .pools) f m k → m ≡ malformed s
 unfolding anyPool malformed
 checked-all s f m k l h t e = sym (or-false m) ∙ rw (drop-of-length-le (s .pools) {i = k} (omega arith), t) at e
+
+-- the same of the pools alone
+pub checked-pools :
+    (pools : List Hasher) (m : Bool) (k : ℕ) → length pools ≡ 32 → 32 ≤ k → Checked pools false m k → m ≡ anyPool malformedPool pools
+unfolding anyPool
+checked-pools pools m k l h e =
+    sym (or-false m) ∙ (rw (drop-of-length-le pools {i = k} (omega arith)) at e) ∙ or-false (anyPool malformedPool pools)

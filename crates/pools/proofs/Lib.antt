@@ -26,3 +26,5 @@ pub mod TriesMade
 pub mod Bounds
 pub mod Blank
 pub mod Slots
+pub mod WellFormed
+pub mod GainedPools

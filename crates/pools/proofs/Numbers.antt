@@ -6,7 +6,7 @@ use Prim.Native.Nat.{ℕ}
 use lib.Dec.{eqb}
 use Rattle.pools.specs.Promises.{number, NumberInjective}
 use Rattle.pools.specs.declared.answer.Answer.{Answer}
-use Rattle.pools.specs.declared.answer.Answer.the-variants.{Done, SourceOutOfRange, PoolOutOfRange, DataLength, RequestTooLong, SeedSize, Malformed, PoolFull, Unseeded, CounterSpent, SlotRange, TryRange, NoneDrawn, BlankSeed, QuotasMalformed, SourceNotListed, OverAllowance}
+use Rattle.pools.specs.declared.answer.Answer.the-variants.{Done, SourceOutOfRange, PoolOutOfRange, DataLength, RequestTooLong, SeedSize, Malformed, PoolFull, Unseeded, CounterSpent, SlotRange, TryRange, NoneDrawn, BlankSeed, QuotasMalformed, SourceNotListed, OverAllowance, StepsSpent}
 
 -- the answer that a number belongs to
 answerOf : ℕ → Answer
@@ -24,7 +24,8 @@ answerOf n =
     (cond (eqb n 31) SlotRange
     (cond (eqb n 32) TryRange
     (cond (eqb n 33) NoneDrawn
-    (cond (eqb n 36) BlankSeed (cond (eqb n 37) QuotasMalformed (cond (eqb n 38) SourceNotListed OverAllowance)))))))))))))))
+    (cond (eqb n 36) BlankSeed
+    (cond (eqb n 37) QuotasMalformed (cond (eqb n 38) SourceNotListed (cond (eqb n 39) OverAllowance StepsSpent))))))))))))))))
 
 read-back : (a : Answer) → answerOf (number a) ≡ a
 unfolding answerOf number
@@ -45,6 +46,7 @@ read-back BlankSeed = refl
 read-back QuotasMalformed = refl
 read-back SourceNotListed = refl
 read-back OverAllowance = refl
+read-back StepsSpent = refl
 
 pub number-injective : NumberInjective
 number-injective a b e = sym (read-back a) ∙ ap answerOf e ∙ read-back b

@@ -39,7 +39,7 @@ any-tabulate t f zero h = unfold anyPool in refl
 any-tabulate t f (suc n) h = any-append t (tabulate f n) (f n) (any-tabulate t f n (λ i l. h i (omega arith))) (h n (le-refl (suc n)))
 
 -- the length of a well-formed pool is within the limit
-within-limit : (p : Hasher) → malformedPool p ≡ false → p .length ≤ maxPoolLength
+pub within-limit : (p : Hasher) → malformedPool p ≡ false → p .length ≤ maxPoolLength
 unfolding malformedPool tooLong
 within-limit p e =
     let front = neither (tooLong p || dirtyTail p) (strayChain p) e .0 in

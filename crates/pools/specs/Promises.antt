@@ -14,7 +14,7 @@ use Rattle.pools.specs.declared.Fortuna.{Fortuna}
 use Rattle.pools.specs.declared.Gain.{Gain}
 use Rattle.pools.specs.declared.Outcome.{Outcome}
 use Rattle.pools.specs.declared.answer.Answer.{Answer}
-use Rattle.pools.specs.declared.answer.Answer.the-variants.{Done, SourceOutOfRange, PoolOutOfRange, DataLength, RequestTooLong, SeedSize, Malformed, PoolFull, Unseeded, CounterSpent, SlotRange, TryRange, NoneDrawn, BlankSeed, QuotasMalformed, SourceNotListed, OverAllowance}
+use Rattle.pools.specs.declared.answer.Answer.the-variants.{Done, SourceOutOfRange, PoolOutOfRange, DataLength, RequestTooLong, SeedSize, Malformed, PoolFull, Unseeded, CounterSpent, SlotRange, TryRange, NoneDrawn, BlankSeed, QuotasMalformed, SourceNotListed, OverAllowance, StepsSpent}
 
 -- the number of an answer in 01 and 02, 0 where the call was done
 unfoldable pub number : Answer → ℕ
@@ -35,6 +35,7 @@ number BlankSeed = 36
 number QuotasMalformed = 37
 number SourceNotListed = 38
 number OverAllowance = 39
+number StepsSpent = 45
 
 -- different answers have different numbers
 abbrev pub NumberInjective : Type 0

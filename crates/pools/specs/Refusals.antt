@@ -1,17 +1,19 @@
 -- The refusals, two chains for each call, over plain values: input numbers, then state numbers, within each list the lower first.
 -- The reference model reads the same chains with what it holds, so the table of boundaries checks them by themselves.
 -- Assumes nothing.
-use mathlib.Core.Bool.{Bool, cond, not, _&&_, _||_}
+use mathlib.Core.Bool.{Bool, false, cond, not, _&&_, _||_}
 use mathlib.Core.List.{List}
 use Prim.Native.Nat.{ℕ, _+_, _-_, _*_, _^_}
 use lib.Dec.{eqb, ltb}
 use lib.ListN.{length, getD, replicate}
 use Rattle.laws.specs.Lists.{sameList}
-use Rattle.laws.specs.Refusals.{refuse}
+use Rattle.laws.specs.Refusals.{refuse, guarded}
 use Rattle.laws.specs.Blocks.{blockCount}
+use Rattle.hash.specs.Hasher.{absorb}
+use Rattle.hash.specs.declared.hasher.Hasher.{Hasher}
 use Rattle.generator.specs.Counter.{maxCounter}
 use Rattle.generator.specs.Refusals.{maxRequest}
-use Rattle.pools.specs.Events.{maxSource, poolCount, maxData, gain}
+use Rattle.pools.specs.Events.{maxSource, poolCount, maxData, eventBytes, gain}
 use Rattle.slots.specs.Shuffle.{hasRepeat}
 use Rattle.pools.specs.Pool.{full}
 
@@ -52,6 +54,10 @@ eventState malformed size n = refuse malformed 21 (refuse (full size (gain n)) 2
 
 unfoldable pub eventNumber : Bool → ℕ → ℕ → ℕ → ℕ → ℕ
 eventNumber malformed size source pool n = andThen (eventInput source pool n) (eventState malformed size n)
+
+-- an event's pool afterwards, whichever pool it is: as it was where the source, the data or the room refuses it
+unfoldable pub gainedPool : Hasher → ℕ → List ℕ → Hasher
+gainedPool p source «data» = guarded (eventNumber false (p .length) source 0 (length «data»)) (absorb p (eventBytes source «data»)) p
 
 -- ---- a request of n bytes
 

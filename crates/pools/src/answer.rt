@@ -21,6 +21,7 @@ pub enum Answer {
     QuotasMalformed,
     SourceNotListed,
     OverAllowance,
+    StepsSpent,
 }
 
 impl Answer {
@@ -46,6 +47,7 @@ impl Answer {
             Answer::QuotasMalformed => 37,
             Answer::SourceNotListed => 38,
             Answer::OverAllowance => 39,
+            Answer::StepsSpent => 45,
         }
     }
 

@@ -1,4 +1,5 @@
 // What an event puts into its pool.
+use crate::refusals::event_answer;
 use hash::Hasher;
 use laws::overwrite;
 ghost use mathlib.Core.Path.{_≡_};
@@ -7,6 +8,7 @@ ghost use lib.ListN.{length};
 ghost use Rattle.hash.specs.ShaD.{maxPoolLength};
 ghost use Rattle.hash.specs.Hasher.{absorb};
 ghost use Rattle.pools.specs.Events.{maxSource, maxData, eventBytes, gain};
+ghost use Rattle.pools.specs.Refusals.{gainedPool};
 
 // The bytes before the data: two of the source, least significant first, and the length.
 pub(crate) const HEADER: usize = 3;
@@ -26,4 +28,15 @@ pub(crate) fn gained(pool: Hasher, source: u32, data: &[u8]) -> Hasher
     overwrite(&mut bytes[HEADER..], data);
     let absorbed = pool.absorb(&bytes[..HEADER + n]);
     absorbed.next
+}
+
+// The pool after an event, or as it was where the source, the data or the room refuses it.
+pub fn gained_pool(pool: Hasher, source: u32, data: &[u8]) -> Hasher
+    ensures { λ r. ⌜ r ≡ gainedPool pool source (now («data» .entry)) ⌝ }
+{
+    let answer = event_answer(false, pool.length, source, 0, data.len());
+    if answer.is_done() {
+        return gained(pool, source, data);
+    }
+    pool
 }

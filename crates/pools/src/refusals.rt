@@ -41,7 +41,7 @@ fn is_full(size: u64, n: u64) -> bool
 }
 
 // The answer to an event of n bytes of data, where its pool holds `size` bytes.
-pub(crate) fn event_answer(malformed: bool, size: u64, source: u32, pool: u32, n: usize) -> Answer
+pub fn event_answer(malformed: bool, size: u64, source: u32, pool: u32, n: usize) -> Answer
     ensures { λ r. ⌜ number r ≡ eventNumber malformed size source pool n ⌝ }
 {
     if source > MAX_SOURCE {
@@ -119,7 +119,7 @@ pub fn request_input(n: usize) -> Answer
 }
 
 // The answer to a request of n bytes.
-pub(crate) fn request_answer(malformed: bool, generator: Generator, due: bool, n: usize) -> Answer
+pub fn request_answer(malformed: bool, generator: Generator, due: bool, n: usize) -> Answer
     ensures { λ r. ⌜ number r ≡ requestNumber malformed (decode generator .count) due n ⌝ }
 {
     let input = request_input(n);
@@ -140,7 +140,7 @@ pub fn seed_input(seed: &[u8]) -> Answer
 }
 
 // The answer to a seed write on the lent bytes.
-pub(crate) fn write_answer(malformed: bool, generator: Generator, due: bool, seed: &[u8]) -> Answer
+pub fn write_answer(malformed: bool, generator: Generator, due: bool, seed: &[u8]) -> Answer
     ensures { λ r. ⌜ number r ≡ writeNumber malformed (decode generator .count) due (now (seed .entry)) ⌝ }
 {
     let input = seed_input(seed);
@@ -179,7 +179,7 @@ pub fn update_input(seed: &[u8]) -> Answer
 }
 
 // The answer to a seed update on the lent bytes.
-pub(crate) fn update_answer(malformed: bool, generator: Generator, due: bool, seed: &[u8]) -> Answer
+pub fn update_answer(malformed: bool, generator: Generator, due: bool, seed: &[u8]) -> Answer
     ensures { λ r. ⌜ number r ≡ updateNumber malformed (decode generator .count) due (now (seed .entry)) ⌝ }
 {
     let input = update_input(seed);

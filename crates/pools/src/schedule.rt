@@ -57,7 +57,7 @@ pub(crate) fn collect_digests(pools: [Hasher; 32], number: u32) -> Collected
 }
 
 // One request more on the key, up to 65,535.
-pub(crate) fn counted(n: u16) -> u16
+pub fn counted(n: u16) -> u16
     ensures { λ r. ⌜ r ≡ countRequest n ⌝ }
 {
     if n < 65535 { n + 1 } else { n }

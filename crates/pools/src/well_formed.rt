@@ -10,7 +10,7 @@ ghost use lib.ListN.{drop};
 ghost use Rattle.laws.specs.Lists.{allZero, sameList};
 ghost use Rattle.generator.specs.Steps.{decode};
 ghost use Rattle.pools.specs.Pool.{malformedPool};
-ghost use Rattle.pools.specs.State.{malformedFields};
+ghost use Rattle.pools.specs.State.{anyPool, malformedFields};
 ghost use Rattle.pools.specs.Masks.{maskBytes};
 
 // 63 bytes that keep nothing, then 64 that keep all: from 63 - n on, what stands after n bytes is kept.
@@ -204,6 +204,23 @@ pub(crate) fn pool_malformed(pool: Hasher, masks: &[u8; 127]) -> bool
         return differences(chain, start) != 0;
     }
     false
+}
+
+// Whether one of the pools is malformed, for a state of any kind.
+pub fn any_malformed(pools: [Hasher; 32]) -> bool
+    ensures { λ r. ⌜ r ≡ anyPool malformedPool pools ⌝ }
+{
+    let masks = masks();
+    let mut malformed = false;
+    let mut k: usize = 0;
+    while k < 32 {
+        let pool = pools[k];
+        if pool_malformed(pool, &masks) {
+            malformed = true;
+        }
+        k += 1;
+    }
+    malformed
 }
 
 // Whether generator, flag, timer and the count of requests contradict each other.

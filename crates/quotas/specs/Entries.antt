@@ -57,9 +57,13 @@ chargedFor (write clock seed) rs = rs
 chargedFor (draw clock n d) rs = rs
 chargedFor (shuffle clock list) rs = rs
 
+-- what is left of the list rs after a call of any kind: nothing spent where it emptied pools; `charge` where it was accepted; else rs
+abbrev pub settledList : {S : Type 0} → Outcome S → List Quota → List Quota → List Quota
+settledList o charge rs = cond (ltb 0 (o .effect .emptied)) (cleared rs) (cond (eqb (o .number) 0) charge rs)
+
 -- the list that a call returns: with nothing spent where it made a pool reseed, 33 included; charged where it was accepted; else as it was
 unfoldable pub quotasLeft : {S : Type 0} → Call → List Quota → Outcome S → List Quota
-quotasLeft c rs o = cond (ltb 0 (o .effect .emptied)) (cleared rs) (cond (eqb (o .number) 0) (chargedFor c rs) rs)
+quotasLeft c rs o = settledList o (chargedFor c rs) rs
 
 -- without a list there is none to return
 unfoldable pub listLeft : {S : Type 0} → Entry → Outcome S → Quotas

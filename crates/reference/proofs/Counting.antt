@@ -31,7 +31,7 @@ use Rattle.reference.proofs.Agreement.{agrees, sound-after}
 use Rattle.reference.proofs.Counters.{blocks-are}
 use Rattle.reference.proofs.Concrete.{counter-concrete}
 
-counters-length : (c k : ℕ) → length (map counterBlock (counters c k)) ≡ k
+pub counters-length : (c k : ℕ) → length (map counterBlock (counters c k)) ≡ k
 unfolding counters
 counters-length c zero = refl
 counters-length c (suc k) = omega (arith, counters-length (c + 1) k)

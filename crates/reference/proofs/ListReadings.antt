@@ -1,7 +1,7 @@
 -- The reference model's reading of a list, record by record, is the station's.
 -- Assumes nothing.
 use mathlib.Core.Path.{_≡_, refl, sym, ap, ap₂, _∙_}
-use mathlib.Core.Bool.{Bool, true, false, _||_}
+use mathlib.Core.Bool.{Bool, true, false, cond, _||_}
 use mathlib.Core.List.{List, [], _∷_, map}
 use Prim.Native.Nat.{ℕ, suc, _+_, _<_}
 use native.Mathlib.Nat.{add-zero}
@@ -15,13 +15,13 @@ use Rattle.pools.specs.declared.Fortuna.{Fortuna}
 use Rattle.pools.specs.Events.{headerLength, gain}
 use Rattle.pools.specs.Calls.{Call, event, request, update, write, draw, shuffle, Outcome, runFrom}
 use Rattle.quotas.specs.declared.Quota.{Quota}
-use Rattle.quotas.specs.Records.{maxQuotas, isListed, quotaOf, repeats, overspent, malformedQuotas, quotasNumber, eventQuotasNumber, cleared, unspent}
-use Rattle.quotas.specs.Entries.{Quotas, without, within, Entry, taking, listNumber, entryStep, chargedFor, quotasLeft, listLeft}
+use Rattle.quotas.specs.Records.{maxQuotas, isListed, quotaOf, repeats, overspent, malformedQuotas, quotasNumber, eventQuotasNumber, charged, cleared, unspent}
+use Rattle.quotas.specs.Entries.{Quotas, without, within, Entry, taking, listNumber, entryStep, chargedFor, settledList, quotasLeft, listLeft}
 use Rattle.quotas.proofs.Lists.{quota-here, quota-later, repeats-not, listed-not, charged-each}
 use Rattle.quotas.proofs.Left.{passed-alone}
 use Rattle.quotas.proofs.Runs.{event-allowed}
 use Rattle.reference.specs.Runs.{listsLeft}
-use Rattle.reference.specs.ReferenceLists.{some, recordsOf, faulty, eventByRecords, byRecords, addsTo, recordAfter, listAfter, listsAfter}
+use Rattle.reference.specs.ReferenceLists.{some, recordsOf, faulty, eventByRecords, byRecords, addsTo, settledRecord, recordAfter, listAfter, listsAfter}
 
 -- ---- the records of a source
 
@@ -114,7 +114,7 @@ unfolding overspent some
 overspent-some [] = refl
 overspent-some (r ∷ rs) = ap (λ (t : Bool). ltb (r .allowance) (r .spent) || t) (overspent-some rs)
 
-faulty-is : (rs : List Quota) → malformedQuotas rs ≡ faulty rs
+pub faulty-is : (rs : List Quota) → malformedQuotas rs ≡ faulty rs
 unfolding malformedQuotas faulty maxQuotas
 faulty-is rs = rw (repeats-counted rs, overspent-some rs)
 
@@ -134,7 +134,7 @@ module _ (rs : List Quota) (x n : ℕ) where
       last true = refl
       last false = refl
 
-  event-is : eventByRecords rs x n ≡ eventQuotasNumber rs x (gain n)
+  pub event-is : eventByRecords rs x n ≡ eventQuotasNumber rs x (gain n)
   unfolding eventByRecords eventQuotasNumber
   event-is =
       rw (← faulty-is rs)
@@ -165,59 +165,52 @@ map-same : (f : Quota → Quota) → ((r : Quota) → f r ≡ r) → (rs : List 
 map-same f h [] = refl
 map-same f h (r ∷ rs) = ap₂ (λ (q : Quota) (l : List Quota). q ∷ l) (h r) (map-same f h rs)
 
-module _ (c : Call) (o : Outcome Fortuna) where
-  record-cleared : ltb 0 (o .effect .emptied) ≡ true → (r : Quota) → unspent r ≡ recordAfter c o r
-  unfolding recordAfter
-  record-cleared t r = rw t
-
-  record-refused : ltb 0 (o .effect .emptied) ≡ false → eqb (o .number) 0 ≡ false → (r : Quota) → recordAfter c o r ≡ r
-  unfolding recordAfter
-  record-refused t e r = rw (t, e, add-zero (r .spent))
-
-  record-free : ltb 0 (o .effect .emptied) ≡ false → eqb (o .number) 0 ≡ true → ((x : ℕ) → addsTo c x ≡ 0) → (r : Quota) → recordAfter c o r ≡ r
-  unfolding recordAfter
-  record-free t e z r = rw (t, e, z (r .source), add-zero (r .spent))
-
 cleared-map : (rs : List Quota) → cleared rs ≡ map unspent rs
 unfolding cleared
 cleared-map rs = refl
 
--- what an accepted call charges
-module _ (rs : List Quota) (o : Outcome Fortuna) (quiet : ltb 0 (o .effect .emptied) ≡ false) (done : eqb (o .number) 0 ≡ true) where
-  plain-charged : (c : Call) → ((x : ℕ) → addsTo c x ≡ 0) → rs ≡ map (recordAfter c o) rs
-  plain-charged c z = sym (map-same (recordAfter c o) (record-free c o quiet done z) rs)
+-- after a call of any kind, where an accepted one adds so much to a record of a source
+module _ {S : Type 0} (o : Outcome S) (adds : ℕ → ℕ) where
+  abbrev settled : Quota → Quota
+  settled r = settledRecord o (adds (r .source)) r
 
-  event-charged : (source pool : ℕ) (content : List ℕ) → repeats rs ≡ false
-      → chargedFor (event source pool content) rs ≡ map (recordAfter (event source pool content) o) rs
-  unfolding chargedFor gain headerLength recordAfter addsTo
-  event-charged source pool content alone =
-      charged-each rs source (3 + length content) alone ∙ map-cong _ _ (λ r. rw (quiet, done)) rs
+  -- what an accepted call charges: nothing, or to the records of one source
+  module _ (rs : List Quota) (quiet : ltb 0 (o .effect .emptied) ≡ false) (done : eqb (o .number) 0 ≡ true) where
+    pub plain-charged : ((x : ℕ) → adds x ≡ 0) → rs ≡ map settled rs
+    plain-charged z = sym (map-same settled (λ r. rw (quiet, done, z (r .source), add-zero (r .spent))) rs)
+
+    pub event-charged :
+        (source n : ℕ) → ((x : ℕ) → adds x ≡ cond (eqb x source) (3 + n) 0) → repeats rs ≡ false → charged rs source (gain n) ≡ map settled rs
+    unfolding gain headerLength
+    event-charged source n z alone = charged-each rs source (3 + n) alone ∙ map-cong _ _ (λ r. rw (quiet, done, z (r .source))) rs
+
+  -- the list returned, record by record
+  pub settled-list :
+      (charge rs : List Quota) → (ltb 0 (o .effect .emptied) ≡ false → eqb (o .number) 0 ≡ true → charge ≡ map settled rs) →
+      settledList o charge rs ≡ map settled rs
+  settled-list charge rs h =
+      by-test (ltb 0 (o .effect .emptied)) _
+      (λ t. rw t (cleared-map rs ∙ map-cong unspent settled (λ r. rw t) rs))
+      (λ t. by-test (eqb (o .number) 0) _
+      (λ d. rw (t, d) (h t d))
+      (λ d. rw (t, d) (sym (map-same settled (λ r. rw (t, d, add-zero (r .spent))) rs))))
 
 charges : (s : Fortuna) (rs : List Quota) (c : Call) → let o = entryStep s (taking (within rs) c) in
     ltb 0 (o .effect .emptied) ≡ false → eqb (o .number) 0 ≡ true → chargedFor c rs ≡ map (recordAfter c o) rs
+unfolding chargedFor recordAfter addsTo
 charges s rs (event source pool content) q d =
-    event-charged rs (entryStep s (taking (within rs) (event source pool content))) q d source pool content
-    (passed-alone rs (event-allowed s rs source pool content (eqb-true _ 0 d) .formed))
-charges s rs (request clock buffer) q d =
-    unfold chargedFor in plain-charged rs (entryStep s (taking (within rs) (request clock buffer))) q d (request clock buffer) (λ x. unfold addsTo in refl)
-charges s rs (update clock seed) q d =
-    unfold chargedFor in plain-charged rs (entryStep s (taking (within rs) (update clock seed))) q d (update clock seed) (λ x. unfold addsTo in refl)
-charges s rs (write clock seed) q d =
-    unfold chargedFor in plain-charged rs (entryStep s (taking (within rs) (write clock seed))) q d (write clock seed) (λ x. unfold addsTo in refl)
-charges s rs (draw clock n d′) q d =
-    unfold chargedFor in plain-charged rs (entryStep s (taking (within rs) (draw clock n d′))) q d (draw clock n d′) (λ x. unfold addsTo in refl)
-charges s rs (shuffle clock list) q d =
-    unfold chargedFor in plain-charged rs (entryStep s (taking (within rs) (shuffle clock list))) q d (shuffle clock list) (λ x. unfold addsTo in refl)
+    event-charged (entryStep s (taking (within rs) (event source pool content))) (addsTo (event source pool content)) rs q d
+    source (length content) (λ x. refl) (passed-alone rs (event-allowed s rs source pool content (eqb-true _ 0 d) .formed))
+charges s rs (request clock buffer) q d = plain-charged (entryStep s (taking (within rs) (request clock buffer))) (λ x. 0) rs q d (λ x. refl)
+charges s rs (update clock seed) q d = plain-charged (entryStep s (taking (within rs) (update clock seed))) (λ x. 0) rs q d (λ x. refl)
+charges s rs (write clock seed) q d = plain-charged (entryStep s (taking (within rs) (write clock seed))) (λ x. 0) rs q d (λ x. refl)
+charges s rs (draw clock n d′) q d = plain-charged (entryStep s (taking (within rs) (draw clock n d′))) (λ x. 0) rs q d (λ x. refl)
+charges s rs (shuffle clock list) q d = plain-charged (entryStep s (taking (within rs) (shuffle clock list))) (λ x. 0) rs q d (λ x. refl)
 
 list-is : (s : Fortuna) (rs : List Quota) (c : Call) → let o = entryStep s (taking (within rs) c) in quotasLeft c rs o ≡ map (recordAfter c o) rs
-unfolding quotasLeft
+unfolding quotasLeft recordAfter
 list-is s rs c =
-    let o = entryStep s (taking (within rs) c) in
-    by-test (ltb 0 (o .effect .emptied)) _
-    (λ t. rw t (cleared-map rs ∙ map-cong unspent (recordAfter c o) (record-cleared c o t) rs))
-    (λ t. by-test (eqb (o .number) 0) _
-    (λ d. rw (t, d) (charges s rs c t d))
-    (λ d. rw (t, d) (sym (map-same (recordAfter c o) (record-refused c o t d) rs))))
+    settled-list (entryStep s (taking (within rs) c)) (addsTo c) (chargedFor c rs) rs (λ t d. unfold recordAfter in charges s rs c t d)
 
 left-is : (s : Fortuna) (q : Quotas) (c : Call) → listLeft (taking q c) (entryStep s (taking q c)) ≡ listAfter (taking q c) (entryStep s (taking q c))
 unfolding listLeft listAfter

@@ -50,14 +50,18 @@ addsTo (write clock seed) x = 0
 addsTo (draw clock n d) x = 0
 addsTo (shuffle clock list) x = 0
 
--- a record after a call: nothing is spent after a pool reseed, 33 included; else what an accepted call adds
-unfoldable pub recordAfter : {S : Type 0} → Call → Outcome S → Quota → Quota
-recordAfter c o r =
+-- a record after a call of any kind that adds so much to it where it is accepted: nothing is spent after pools were emptied
+abbrev pub settledRecord : {S : Type 0} → Outcome S → ℕ → Quota → Quota
+settledRecord o adds r =
     record {
       source = r .source;
       allowance = r .allowance;
-      spent = cond (ltb 0 (o .effect .emptied)) 0 (r .spent + cond (eqb (o .number) 0) (addsTo c (r .source)) 0);
+      spent = cond (ltb 0 (o .effect .emptied)) 0 (r .spent + cond (eqb (o .number) 0) adds 0);
     }
+
+-- a record after a call: nothing is spent after a pool reseed, 33 included; else what an accepted call adds
+unfoldable pub recordAfter : {S : Type 0} → Call → Outcome S → Quota → Quota
+recordAfter c o r = settledRecord o (addsTo c (r .source)) r
 
 -- the list that a call returns
 unfoldable pub listAfter : {S : Type 0} → Entry → Outcome S → Quotas

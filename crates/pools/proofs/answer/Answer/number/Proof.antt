@@ -56,6 +56,9 @@ enum-told-16 c = search needs
 enum-told-17 : tie.Need-enum-told-17
 enum-told-17 c = search needs
 
+enum-told-18 : tie.Need-enum-told-18
+enum-told-18 c = search needs
+
 returns : tie.Need-returns
 unfolding number
 returns c = rw (c .enum-told .given .1)
@@ -124,6 +127,10 @@ returns-17 : tie.Need-returns-17
 unfolding number
 returns-17 c = rw (c .enum-told17 .given .1)
 
+returns-18 : tie.Need-returns-18
+unfolding number
+returns-18 c = rw (c .enum-told18 .given .1)
+
 pub number-spec : {M : Type 1} → statement M
 number-spec =
     tie.close
@@ -145,6 +152,7 @@ number-spec =
     enum-told-15
     enum-told-16
     enum-told-17
+    enum-told-18
     returns
     returns-2
     returns-3
@@ -161,4 +169,5 @@ number-spec =
     returns-14
     returns-15
     returns-16
-    returns-17)
+    returns-17
+    returns-18)
