@@ -1,0 +1,17 @@
+pub mod Schedule
+pub mod Bookings
+pub mod Invariant
+pub mod Concrete
+pub mod Simulation
+pub mod Lists
+pub mod Agreement
+pub mod Places
+pub mod Tracing
+pub mod Uses
+pub mod Provenance
+pub mod Counters
+pub mod Counting
+pub mod Left
+pub mod Correct
+pub mod Picks
+pub mod Boundaries

@@ -1,0 +1,11 @@
+pub mod Runs
+pub mod ReferenceLists
+pub mod Reference
+pub mod Agreement
+pub mod Schedule
+pub mod Provenance
+pub mod Counters
+pub mod Left
+pub mod Correct
+pub mod Picks
+pub mod Boundaries
