@@ -1,1 +1,2 @@
 pub mod Metering
+pub mod KeyedMetering
