@@ -22,7 +22,7 @@ struct Known {
 }
 
 // The number without 38 and 39: the event's own input number, the fault of the list, or the event's own state number.
-fn known_number(own: u32, fault: u32) -> u32
+pub(crate) fn known_number(own: u32, fault: u32) -> u32
     ensures { λ r. ⌜ r ≡ knownOf own fault ⌝ }
 {
     if fault == 0 {
@@ -38,7 +38,7 @@ fn known_number(own: u32, fault: u32) -> u32
 }
 
 // What n bytes of data cost. More than an event may have cost nothing: it is refused.
-fn cost_of(n: usize) -> u32
+pub(crate) fn cost_of(n: usize) -> u32
     ensures { λ r. ⌜ r ≡ costOf n ⌝ }
 {
     if n > 32 {
@@ -62,7 +62,7 @@ fn known_event(state: Fortuna, fault: u32, source: u32, pool: u32, data: &[u8]) 
 }
 
 // The answer by the list's number, or the event's own.
-fn answered(own: Answer, number: u32) -> Answer
+pub(crate) fn answered(own: Answer, number: u32) -> Answer
     ensures { λ r. ⌜ r ≡ answeredBy own number ⌝ }
 {
     if number == 37 {

@@ -10,7 +10,7 @@ ghost use Rattle.pools.specs.Promises.{number, GivesBytes, GivesValue};
 ghost use Rattle.metered.specs.Metering.{gatedStep};
 
 // The answer to a call whose list is malformed, from the answer by its input alone.
-fn refusal(input: Answer) -> Answer
+pub(crate) fn refusal(input: Answer) -> Answer
     ensures { λ r. ⌜ number r ≡ andThen (number input) 37 ⌝ }
 {
     if input.is_done() {
