@@ -13,8 +13,8 @@ use Rattle.pools.specs.declared.Fortuna.{Fortuna}
 use Rattle.pools.specs.declared.Outcome as Method
 use Rattle.pools.specs.declared.answer.Answer.{Answer}
 use Rattle.pools.specs.Refusals.{andThen}
-use Rattle.pools.specs.Effects.{unchanged}
-use Rattle.pools.specs.Calls.{Call, request, update, write, draw, shuffle, inputBuffer, inputNumber, stateNumber, callFound, callValue, callEffect, Outcome, step}
+use Rattle.pools.specs.Effects.{Effect, unchanged}
+use Rattle.pools.specs.Calls.{Call, request, update, write, draw, shuffle, inputBuffer, inputNumber, stateNumber, callFound, callValue, callEffect, Outcome, outcome, step}
 use Rattle.pools.specs.Promises.{number, GivesBytes, GivesValue}
 use Rattle.pools.proofs.Chains.{then-second, both-passed, call-chains}
 use Rattle.pools.proofs.Outcomes.{outcome-refused}
@@ -52,7 +52,7 @@ unfolding listNumber chargedFor
 draw-plain clock n d = record { number = λ rs. refl; free = λ rs. refl }
 
 -- the check gives 0 or 37
-fault-is : (rs : List Quota) → cond (eqb (quotasNumber rs) 0) 0 37 ≡ quotasNumber rs
+pub fault-is : (rs : List Quota) → cond (eqb (quotasNumber rs) 0) 0 37 ≡ quotasNumber rs
 unfolding quotasNumber
 fault-is rs = go (malformedQuotas rs)
   where
@@ -76,21 +76,25 @@ left-plain c p s rs =
 
 -- ---- the gate shut, and open
 
+-- a call of any kind on any state: its input number i, then 37, whatever its state number n
+gate-number : (fault i n : ℕ) → fault ≢ 0 → andThen i (andThen (cond (eqb fault 0) 0 37) n) ≡ andThen i 37
+unfolding andThen
+gate-number fault i n some = rw (ne-eqb fault 0 some)
+
+not-zero : (i : ℕ) → andThen i 37 ≢ 0
+not-zero i e = let k : _≡_ {A = ℕ} 37 0 = both-passed i 37 e .1 in absurd (omega (arith, k))
+
+pub shut-outcome : {S : Type 0} (fault i n : ℕ) (found : Bool) (value : ℕ) (buffer : List ℕ) (s : S) (done : Effect S) → fault ≢ 0
+    → outcome (andThen i (andThen (cond (eqb fault 0) 0 37) n)) found value buffer s done
+    ≡ record { number = andThen i 37; value = 0; effect = unchanged buffer s }
+shut-outcome fault i n found value buffer s done some =
+    rw (gate-number fault i n some) (outcome-refused (andThen i 37) found value buffer s done (not-zero i))
+
 module _ (fault : ℕ) (s : Fortuna) (c : Call) where
   module _ (some : fault ≢ 0) where
-    abbrev refusedBy : ℕ
-    refusedBy = andThen (inputNumber c) 37
-
-    gate-number : andThen (inputNumber c) (andThen (cond (eqb fault 0) 0 37) (stateNumber s c)) ≡ refusedBy
-    unfolding andThen
-    gate-number = rw (ne-eqb fault 0 some)
-
-    not-zero : refusedBy ≢ 0
-    not-zero e = let k : _≡_ {A = ℕ} 37 0 = both-passed (inputNumber c) 37 e .1 in absurd (omega (arith, k))
-
-    gate-refuses : gatedStep fault s c ≡ record { number = refusedBy; value = 0; effect = unchanged (inputBuffer c) s }
+    gate-refuses : gatedStep fault s c ≡ record { number = andThen (inputNumber c) 37; value = 0; effect = unchanged (inputBuffer c) s }
     unfolding gatedStep
-    gate-refuses = rw gate-number (outcome-refused refusedBy (callFound s c) (callValue s c) (inputBuffer c) s (callEffect s c) not-zero)
+    gate-refuses = shut-outcome fault (inputNumber c) (stateNumber s c) (callFound s c) (callValue s c) (inputBuffer c) s (callEffect s c) some
 
     -- a refusal from the answer by the input alone, which is k
     pub gate-shut : (k : ℕ) → k ≡ inputNumber c → (r : Method.Outcome)

@@ -1,3 +1,4 @@
 pub mod Gating
+pub mod KeyedGating
 pub mod Eventing
 pub mod Buffered

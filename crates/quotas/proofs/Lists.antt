@@ -146,6 +146,14 @@ cleared-more : (r : Quota) (rs : List Quota) → cleared (r ∷ rs) ≡ unspent 
 unfolding cleared
 cleared-more r rs = refl
 
+-- what was charged is forgotten
+pub cleared-charged : (rs : List Quota) (x cost : ℕ) → cleared (charged rs x cost) ≡ cleared rs
+cleared-charged [] x cost = ap cleared (charged-none x cost)
+cleared-charged (r ∷ rs) x cost =
+    by-test (eqb (r .source) x) _
+    (λ e. rw (charged-here r rs x cost e, cleared-more (chargedBy r cost) rs, cleared-more r rs))
+    (λ e. rw (charged-later r rs x cost e, cleared-more r (charged rs x cost), cleared-more r rs, cleared-charged rs x cost))
+
 cleared-none : (x : ℕ) → quotaOf (cleared []) x ≡ unspent (quotaOf [] x)
 unfolding cleared quotaOf placeOf
 cleared-none x = refl
