@@ -1,26 +1,23 @@
 -- An event with its list: its number, the list it leaves, and the pool to store.
 -- Assumes nothing.
-use mathlib.Core.Path.{_≡_, refl, sym, ap, ap₂, subst, _∙_}
+use mathlib.Core.Path.{_≡_, refl, sym, ap, ap₂, subst, subst₂, _∙_}
 use mathlib.Core.Logic.{_≢_}
-use mathlib.Core.Bool.{Bool, true, false, cond, not, _||_}
+use mathlib.Core.Bool.{Bool, true, false, cond}
 use mathlib.Core.List.{List, []}
-use Prim.Native.Nat.{ℕ, _+_, _-_, _%_}
+use Prim.Native.Nat.{ℕ, _-_, _%_}
 use native.Mathlib.Nat.{mod-eq-of-lt}
-use native.Mathlib.Omega.{arith}
 use lib.Dec.{eqb, ltb}
 use lib.ListN.{length}
 use borrow.Author.Tests.{eqb-true, eqb-false, ne-eqb}
 use Rattle.laws.specs.Refusals.{refuse}
-use Rattle.laws.proofs.Cases.{by-test, neither}
-use Rattle.laws.proofs.Refusals.{passed}
+use Rattle.laws.proofs.Cases.{by-test}
 use Rattle.pools.specs.declared.Fortuna.{Fortuna}
 use Rattle.pools.specs.declared.Gain.{Gain}
 use Rattle.pools.specs.declared.Outcome as Method
-use Rattle.pools.specs.declared.answer.Answer.{Answer}
-use Rattle.pools.specs.Events.{maxSource, poolCount, maxData, gain}
+use Rattle.pools.specs.Events.{maxSource, poolCount, gain}
 use Rattle.pools.specs.Pool.{full}
 use Rattle.pools.specs.State.{poolAt, malformed}
-use Rattle.pools.specs.Refusals.{andThen, eventInput, eventState}
+use Rattle.pools.specs.Refusals.{eventInput, eventState}
 use Rattle.pools.specs.Effects.{withPool, unchanged}
 use Rattle.pools.specs.Calls.{Call, event, inputBuffer, inputNumber, stateNumber, callNumber, callFound, callValue, callEffect, Outcome, outcome, step}
 use Rattle.pools.specs.Promises.{number, Gains}
@@ -28,83 +25,26 @@ use Rattle.pools.proofs.Chains.{then-nothing, call-chains}
 use Rattle.pools.proofs.EventCalls.{pool-kept, gain-place}
 use Rattle.pools.proofs.Outcomes.{outcome-refused}
 use Rattle.quotas.specs.declared.Quota.{Quota}
-use Rattle.quotas.specs.Records.{quotaOf, isListed, malformedQuotas, quotasNumber, eventQuotasNumber, charged}
+use Rattle.quotas.specs.Records.{quotasNumber, charged}
 use Rattle.quotas.specs.Charges.{comesFirst, chargeNumber, chargeList}
 use Rattle.quotas.specs.Entries.{within, taking, listNumber, entryNumber, entryStep}
 use Rattle.quotas.specs.Left.{leftBy}
-use Rattle.quotas.proofs.Entries.{entry-passed}
 use Rattle.quotas.proofs.Left.{left-refused, left-charged}
 use Rattle.metered.specs.declared.events.Known.{Known}
 use Rattle.metered.specs.Metering.{knownOf, costOf, Knows, answeredBy, settledBy, Meters, MetersGain}
+use Rattle.metered.proofs.EventNumbers.{ByState, Own, answer-is, ownNumber, listedNumber, charge-number, own-or-list, listed-passed}
 
--- ---- numbers, over the tests
+-- ---- its state's number
 
-abbrev inputOf : Bool → Bool → Bool → ℕ
-inputOf a b d = refuse a 11 (refuse b 12 (refuse d 13 0))
+state-numbers : (t u : Bool) → ByState (refuse t 21 (refuse u 22 0))
+unfolding comesFirst knownOf
+state-numbers true u = record { behind = refl; late = refl }
+state-numbers false true = record { behind = refl; late = refl }
+state-numbers false false = record { behind = refl; late = refl }
 
-abbrev stateOf : Bool → Bool → ℕ
-stateOf t u = refuse t 21 (refuse u 22 0)
-
-abbrev listOf : Bool → Bool → Bool → ℕ
-listOf g w v = refuse g 37 (refuse w 38 (refuse v 39 0))
-
--- an event's own number without a list, and its number with it
-abbrev ownOf : Bool → Bool → Bool → Bool → Bool → ℕ
-ownOf a b d t u = andThen (inputOf a b d) (stateOf t u)
-
-abbrev withOf : Bool → Bool → Bool → Bool → Bool → Bool → Bool → Bool → ℕ
-withOf a b d t u g w v = andThen (inputOf a b d) (andThen (listOf g w v) (stateOf t u))
-
--- what is charged by the number without 38 and 39 gets the number with the list; the cost is right unless the data are too long
-numbers :
-    (a b d t u g w v v′ : Bool) → (d ≡ false → v′ ≡ v) →
-    let known = knownOf (ownOf a b d t u) (refuse g 37 0) in
-    cond (comesFirst known) known (refuse w 38 (refuse v′ 39 known)) ≡ withOf a b d t u g w v
-unfolding comesFirst knownOf andThen
-numbers true b d t u true w v v′ h = refl
-numbers true b d t u false w v v′ h = refl
-numbers false true d t u true w v v′ h = refl
-numbers false true d t u false w v v′ h = refl
-numbers false false true t u true w v v′ h = refl
-numbers false false true t u false w v v′ h = refl
-numbers false false false true u true w v v′ h = refl
-numbers false false false false true true w v v′ h = refl
-numbers false false false false false true w v v′ h = refl
-numbers false false false true u false true v v′ h = refl
-numbers false false false false true false true v v′ h = refl
-numbers false false false false false false true v v′ h = refl
-numbers false false false true u false false true v′ h = rw (h refl)
-numbers false false false true u false false false v′ h = rw (h refl)
-numbers false false false false true false false true v′ h = rw (h refl)
-numbers false false false false true false false false v′ h = rw (h refl)
-numbers false false false false false false false true v′ h = rw (h refl)
-numbers false false false false false false false false v′ h = rw (h refl)
-
--- a number that the list does not give is the event's own
-abbrev Own : ℕ → ℕ → Type 0
-Own own n = eqb n 37 ≡ false → eqb n 38 ≡ false → eqb n 39 ≡ false → own ≡ n
-
-own-else : (a b d t u g w v : Bool) → Own (ownOf a b d t u) (withOf a b d t u g w v)
-unfolding andThen
-own-else true b d t u g w v h k l = refl
-own-else false true d t u g w v h k l = refl
-own-else false false true t u g w v h k l = refl
-own-else false false false t u true w v h k l = absurd (eqb-false 37 37 h refl)
-own-else false false false t u false true v h k l = absurd (eqb-false 38 38 k refl)
-own-else false false false t u false false true h k l = absurd (eqb-false 39 39 l refl)
-own-else false false false t u false false false h k l = refl
-
--- the answer by a number is one of that number
-answer-is : (own : Answer) (n : ℕ) → Own (number own) n → number (answeredBy own n) ≡ n
-unfolding answeredBy number
-answer-is own n h =
-    by-test (eqb n 37) _
-    (λ t. rw t (sym (eqb-true n 37 t)))
-    (λ t. by-test (eqb n 38) _
-    (λ u. rw (t, u) (sym (eqb-true n 38 u)))
-    (λ u. by-test (eqb n 39) _
-    (λ v. rw (t, u, v) (sym (eqb-true n 39 v)))
-    (λ v. rw (t, u, v) (h t u v))))
+state-late : (s : Fortuna) (source pool : ℕ) (content : List ℕ) → ByState (stateNumber s (event source pool content))
+unfolding stateNumber eventState
+state-late s source pool content = state-numbers (malformed s) (full (poolAt s pool .length) (gain (length content)))
 
 module _ (s : Fortuna) (rs : List Quota) (source pool : ℕ) (content : List ℕ) where
   abbrev c : Call
@@ -119,65 +59,44 @@ module _ (s : Fortuna) (rs : List Quota) (source pool : ℕ) (content : List ℕ
   abbrev N : ℕ
   N = entryNumber s (taking (within rs) c)
 
-  -- the tests of its number
-  abbrev long : Bool
-  long = eqb n 0 || ltb maxData n
+  -- the tests for 11 and 12
+  abbrev noSource : Bool
+  noSource = ltb maxSource source
 
-  abbrev over : ℕ → Bool
-  over cost = ltb (quotaOf rs source .allowance) (quotaOf rs source .spent + cost)
+  abbrev noPool : Bool
+  noPool = ltb (poolCount - 1) pool
 
-  number-with : N ≡ withOf (ltb maxSource source) (ltb (poolCount - 1) pool) long (malformed s) (full (poolAt s pool .length) (gain n))
-      (malformedQuotas rs) (not (isListed rs source)) (over (gain n))
-  unfolding entryNumber inputNumber listNumber stateNumber eventInput eventState eventQuotasNumber
+  -- its number with the list, and without
+  number-with : N ≡ listedNumber rs source n noSource noPool (stateNumber s c)
+  unfolding entryNumber inputNumber listNumber eventInput
   number-with = refl
 
-  number-own : callNumber s c ≡ ownOf (ltb maxSource source) (ltb (poolCount - 1) pool) long (malformed s) (full (poolAt s pool .length) (gain n))
-  unfolding inputNumber stateNumber eventInput eventState
+  number-own : callNumber s c ≡ ownNumber rs source n noSource noPool (stateNumber s c)
+  unfolding inputNumber eventInput
   number-own = call-chains s c
 
   own-is : step s c .number ≡ callNumber s c
   unfolding step outcome callFound
   own-is = then-nothing (callNumber s c)
 
-  -- data of at most 32 bytes cost what the pool gains
-  cost-is : long ≡ false → costOf n ≡ gain n
-  unfolding costOf
-  cost-is h = rw (neither (eqb n 0) (ltb maxData n) h .1)
-
   number-is : chargeNumber rs source (costOf n) (knownOf (callNumber s c) (quotasNumber rs)) ≡ N
-  unfolding chargeNumber quotasNumber
   number-is =
-      ap (λ (k : ℕ). let known = knownOf k (refuse (malformedQuotas rs) 37 0) in
-      cond (comesFirst known) known (refuse (not (isListed rs source)) 38 (refuse (over (costOf n)) 39 known))) number-own
-      ∙ numbers (ltb maxSource source) (ltb (poolCount - 1) pool) long (malformed s) (full (poolAt s pool .length) (gain n)) (malformedQuotas rs)
-      (not (isListed rs source))
-      (over (gain n)) (over (costOf n)) (λ h. ap over (cost-is h))
+      ap (λ (k : ℕ). chargeNumber rs source (costOf n) (knownOf k (quotasNumber rs))) number-own
+      ∙ charge-number rs source n noSource noPool (stateNumber s c) (state-late s source pool content)
       ∙ sym number-with
 
-  own-or-list : Own (callNumber s c) N
-  own-or-list h k l =
-      number-own ∙ own-else (ltb maxSource source) (ltb (poolCount - 1) pool) long (malformed s) (full (poolAt s pool .length) (gain n))
-      (malformedQuotas rs) (not (isListed rs source)) (over (gain n))
-      (ap (λ (x : ℕ). eqb x 37) (sym number-with) ∙ h) (ap (λ (x : ℕ). eqb x 38) (sym number-with) ∙ k) (ap (λ (x : ℕ). eqb x 39) (sym number-with) ∙ l)
-      ∙ sym number-with
+  own-number : Own (callNumber s c) N
+  own-number = subst₂ Own (sym number-own) (sym number-with) (own-or-list rs source n noSource noPool (stateNumber s c))
 
   -- ---- accepted: as without a list
 
   module _ (accepted : N ≡ 0) where
-    own-accepted : callNumber s c ≡ 0
-    own-accepted = let p = entry-passed s (taking (within rs) c) accepted in call-chains s c ∙ rw (p .0, p .1 .1) (then-nothing 0)
-
-    input-passed : (a b d : Bool) → inputOf a b d ≡ 0 → d ≡ false
-    input-passed a b d e =
-        passed d 13 0 (omega arith) (passed b 12 (refuse d 13 0) (omega arith) (passed a 11 (refuse b 12 (refuse d 13 0)) (omega arith) e .1) .1) .0
-
-    accepted-cost : costOf n ≡ gain n
-    unfolding inputNumber eventInput
-    accepted-cost = cost-is (input-passed (ltb maxSource source) (ltb (poolCount - 1) pool) long (entry-passed s (taking (within rs) c) accepted .0))
+    both : (ownNumber rs source n noSource noPool (stateNumber s c) ≡ 0) × (costOf n ≡ gain n)
+    both = listed-passed rs source n noSource noPool (stateNumber s c) (sym number-with ∙ accepted)
 
     E-done : E ≡ step s c
     unfolding entryStep step
-    E-done = rw (accepted, own-accepted)
+    E-done = rw (accepted, number-own ∙ both .0)
 
   E-refused : N ≢ 0 → E ≡ record { number = N; value = 0; effect = unchanged [] s }
   unfolding entryStep inputBuffer
@@ -200,7 +119,7 @@ module _ (s : Fortuna) (rs : List Quota) (source pool : ℕ) (content : List ℕ
     answer-refused : number (answeredBy (k .gain .answer) m) ≡ N
     answer-refused =
         answer-is (k .gain .answer) m (λ x y z.
-        knows .3 .0 ∙ own-is ∙ own-or-list (ap (λ (j : ℕ). eqb j 37) (sym is) ∙ x) (ap (λ (j : ℕ). eqb j 38) (sym is) ∙ y)
+        knows .3 .0 ∙ own-is ∙ own-number (ap (λ (j : ℕ). eqb j 37) (sym is) ∙ x) (ap (λ (j : ℕ). eqb j 38) (sym is) ∙ y)
         (ap (λ (j : ℕ). eqb j 39) (sym is) ∙ z) ∙ sym is)
         ∙ is
 
@@ -230,7 +149,7 @@ module _ (s : Fortuna) (rs : List Quota) (source pool : ℕ) (content : List ℕ
       let known : k .number ≡ knownOf (callNumber s c) (quotasNumber rs) = knows .0 ∙ ap (λ (own : ℕ). knownOf own (quotasNumber rs)) own-is in
       let given : chargeNumber rs source (k .cost) (k .number) ≡ N = ap₂ (chargeNumber rs source) (knows .1) known ∙ number-is in (
         subst (Gains E s pool) (sym e₄) (gains k m knows (e₃ .0 ∙ given)),
-        e₃ .1 ∙ ap (λ (j : ℕ). cond (eqb j 0) (charged rs source (k .cost)) rs) given ∙ list-left (k .cost) (λ z. knows .1 ∙ accepted-cost z),
+        e₃ .1 ∙ ap (λ (j : ℕ). cond (eqb j 0) (charged rs source (k .cost)) rs) given ∙ list-left (k .cost) (λ z. knows .1 ∙ both z .1),
       )
 
   -- the pool stored: the event's outcome

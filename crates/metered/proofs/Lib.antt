@@ -1,4 +1,7 @@
 pub mod Gating
 pub mod KeyedGating
+pub mod EventNumbers
 pub mod Eventing
+pub mod KeyedEventing
 pub mod Buffered
+pub mod KeyedBuffered
