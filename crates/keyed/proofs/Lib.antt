@@ -4,3 +4,4 @@ pub mod Outcomes
 pub mod Outputs
 pub mod Events
 pub mod Requests
+pub mod Chains

@@ -33,11 +33,11 @@ use Rattle.keyed.specs.Refusals.{maxStep, stepNumber, eventInput, eventState}
 use Rattle.keyed.specs.Calls.{Call, event, inputBuffer, picked, inputNumber, stateNumber, callNumber, callEffect, step}
 use Rattle.keyed.specs.Entries.{taking, listNumber, entryNumber, entryStep, chargedFor, quotasLeft, leftBy}
 use Rattle.keyed.specs.Promises.{Gives}
+use Rattle.keyed.proofs.Chains.{call-chains}
 use Rattle.metered.specs.declared.keyed_events.KeyedKnown.{KeyedKnown}
 use Rattle.metered.specs.Metering.{knownOf, costOf, answeredBy}
 use Rattle.metered.specs.KeyedMetering.{KeyedMeters, KeyedKnows, settledKeyed}
 use Rattle.metered.proofs.EventNumbers.{ByState, Own, answer-is, ownNumber, listedNumber, charge-number, own-or-list, listed-passed}
-use Rattle.metered.proofs.KeyedGating.{keyed-chains}
 
 -- ---- its state's number
 
@@ -79,7 +79,7 @@ module _ (s : Keyed) (rs : List Quota) (source : ℕ) (content : List ℕ) where
 
   number-own : callNumber s c ≡ ownNumber rs source n noSource false (stateNumber s c)
   unfolding inputNumber eventInput
-  number-own = keyed-chains s c
+  number-own = call-chains s c
 
   own-is : step s c .number ≡ callNumber s c
   unfolding step outcome

@@ -1,6 +1,6 @@
 -- A call of the keyed scheduler that is no event, behind the check of its list.
 -- Assumes nothing.
-use mathlib.Core.Path.{_≡_, refl, sym, ap, subst, _∙_}
+use mathlib.Core.Path.{_≡_, refl, ap, subst, _∙_}
 use mathlib.Core.Bool.{true}
 use mathlib.Core.Logic.{_≢_}
 use mathlib.Core.List.{List}
@@ -8,7 +8,7 @@ use Prim.Native.Nat.{ℕ}
 use lib.Dec.{eqb}
 use borrow.Author.Tests.{eq-eqb}
 use Rattle.laws.proofs.Cases.{split}
-use Rattle.pools.specs.Refusals.{andThen, requestNumber, updateNumber, writeNumber}
+use Rattle.pools.specs.Refusals.{andThen}
 use Rattle.pools.specs.Effects.{Effect, unchanged}
 use Rattle.pools.specs.Calls as Calls
 use Rattle.pools.specs.Calls.{outcome, effectOf}
@@ -19,21 +19,13 @@ use Rattle.quotas.specs.Records.{quotasNumber}
 use Rattle.quotas.specs.Entries.{within}
 use Rattle.keyed.specs.declared.Keyed.{Keyed}
 use Rattle.keyed.specs.declared.Outcome.{Outcome}
-use Rattle.keyed.specs.Refusals.{eventNumber}
 use Rattle.keyed.specs.Effects.{randomDataFrom, randomData, updateSeed, writeSeed}
-use Rattle.keyed.specs.Calls.{Call, event, request, update, write, inputBuffer, inputNumber, stateNumber, callNumber, callEffect, step}
+use Rattle.keyed.specs.Calls.{Call, request, update, write, inputBuffer, inputNumber, stateNumber, callEffect, step}
 use Rattle.keyed.specs.Entries.{taking, listNumber, entryNumber, entryStep, chargedFor, quotasLeft, leftBy}
 use Rattle.keyed.specs.Promises.{GivesBytes}
+use Rattle.keyed.proofs.Chains.{call-chains}
 use Rattle.metered.specs.KeyedMetering.{keyedGatedStep, KeyedMetersBytes}
 use Rattle.metered.proofs.Gating.{fault-is, shut-outcome}
-
--- a call's number is by its input, then by its state
-pub keyed-chains : (s : Keyed) (c : Call) → callNumber s c ≡ andThen (inputNumber c) (stateNumber s c)
-unfolding callNumber inputNumber stateNumber eventNumber requestNumber updateNumber writeNumber
-keyed-chains s (event source content) = refl
-keyed-chains s (request buffer) = refl
-keyed-chains s (update seed) = refl
-keyed-chains s (write seed) = refl
 
 -- ---- calls that are no events: the list gives them 37 alone, they charge nothing, and they empty no pool
 
@@ -94,4 +86,4 @@ module _ (fault : ℕ) (s : Keyed) (c : Call) where
 
   pub gate-open : fault ≡ 0 → keyedGatedStep fault s c ≡ step s c
   unfolding keyedGatedStep step
-  gate-open e = rw (eq-eqb fault 0 e, then-second 0 (stateNumber s c) refl, ← keyed-chains s c)
+  gate-open e = rw (eq-eqb fault 0 e, then-second 0 (stateNumber s c) refl, ← call-chains s c)
