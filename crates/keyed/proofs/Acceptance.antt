@@ -16,10 +16,8 @@ use Rattle.pools.specs.Refusals as Pools
 use Rattle.pools.specs.Events.{poolCount}
 use Rattle.pools.proofs.Chains.{then-then, both-passed}
 use Rattle.pools.proofs.Acceptance.{not-spent}
-use Rattle.keyed.specs.declared.Keyed.{Keyed}
 use Rattle.keyed.specs.Scheduler.{empties}
 use Rattle.keyed.specs.Refusals.{maxStep, stepNumber, eventInput, eventState, eventNumber}
-use Rattle.keyed.specs.Calls.{Call, event, request, update, write, inputNumber, stateNumber, callNumber}
 
 -- an event names no pool, and pool 0 stands for it in the checks that both schedulers share
 input-is : (source n : ℕ) → eventInput source n ≡ Pools.eventInput source 0 n
@@ -77,12 +75,3 @@ counted-none c = and-false (eqb c 0)
 pub counted-some : (c n : ℕ) → (n ≡ 0 → ⊥) → unseededCounted c n ≡ eqb c 0
 unfolding unseededCounted
 counted-some c n h = rw (ne-eqb n 0 h) (and-true (eqb c 0))
-
--- ---- a call's number is by its input, then by its state
-
-pub call-chains : (s : Keyed) (c : Call) → callNumber s c ≡ Pools.andThen (inputNumber c) (stateNumber s c)
-unfolding callNumber inputNumber stateNumber eventNumber Pools.requestNumber Pools.updateNumber Pools.writeNumber
-call-chains s (event source content) = refl
-call-chains s (request buffer) = refl
-call-chains s (update seed) = refl
-call-chains s (write seed) = refl

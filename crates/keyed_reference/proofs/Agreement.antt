@@ -29,7 +29,8 @@ use Rattle.keyed.specs.State.{fresh}
 use Rattle.keyed.specs.Effects.{randomDataFrom, randomData, updateSeed, writeSeed}
 use Rattle.keyed.specs.Calls.{Call, event, request, update, write, inputBuffer, picked, inputNumber, stateNumber, callNumber, callEffect}
 use Rattle.keyed.specs.Entries.{Entry, listNumber, entryNumber, entryStep}
-use Rattle.keyed.proofs.Acceptance.{event-parts, step-left, step-room, call-chains}
+use Rattle.keyed.proofs.Acceptance.{event-parts, step-left, step-room}
+use Rattle.keyed.proofs.Chains.{call-chains}
 use Rattle.keyed_reference.specs.Runs.{run, stateAfter, listsLeft}
 use Rattle.keyed_reference.specs.ReferenceLists.{byRecords, recordAfter, listAfter, listsAfter}
 use Rattle.keyed_reference.specs.Reference.{Reference, empty, poolContents, referenceNumber, referenceEffect, referenceEntryNumber, referenceStep, referenceRun, referenceAfter}

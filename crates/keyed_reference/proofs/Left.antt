@@ -30,7 +30,7 @@ use Rattle.keyed.specs.Refusals.{stepNumber, eventInput, eventState}
 use Rattle.keyed.specs.Effects.{addEvent, randomDataFrom, randomData, updateSeed, writeSeed}
 use Rattle.keyed.specs.Calls.{Call, event, request, update, write, inputBuffer, inputNumber, stateNumber, callEffect, step}
 use Rattle.keyed.specs.Entries.{taking, listNumber, entryNumber, entryStep, chargedFor, quotasLeft, leftBy}
-use Rattle.keyed.proofs.Acceptance.{call-chains}
+use Rattle.keyed.proofs.Chains.{call-chains}
 use Rattle.keyed_reference.specs.Runs.{isEvent}
 use Rattle.keyed_reference.specs.Schedule.{EmptiedLaw}
 use Rattle.keyed_reference.specs.Provenance.{NoEvent}
