@@ -10,7 +10,7 @@ use Rattle.pools.specs.Refusals.{andThen}
 use Rattle.pools.specs.Calls.{Outcome, outcome}
 use Rattle.quotas.specs.declared.Quota.{Quota}
 use Rattle.quotas.specs.Records.{quotasNumber, eventQuotasNumber, charged}
-use Rattle.quotas.specs.Entries.{Quotas, without, within, settledList}
+use Rattle.quotas.specs.Entries.{Quotas, without, within, settledList, leftWith}
 use Rattle.keyed.specs.declared.Keyed.{Keyed}
 use Rattle.keyed.specs.Calls.{Call, event, request, update, write, inputBuffer, inputNumber, stateNumber, callEffect}
 
@@ -52,11 +52,7 @@ quotasLeft c rs o = settledList o (chargedFor c rs) rs
 
 -- without a list there is none to return
 unfoldable pub listLeft : {S : Type 0} → Entry → Outcome S → Quotas
-listLeft e o = leftOf (e .quotas)
-  where
-    leftOf : Quotas → Quotas
-    leftOf without = without
-    leftOf (within rs) = within (quotasLeft (e .call) rs o)
+listLeft e o = leftWith (λ rs. quotasLeft (e .call) rs o) (e .quotas)
 
 -- what the call c leaves of its list rs on the state s
 unfoldable pub leftBy : Keyed → List Quota → Call → List Quota

@@ -2,7 +2,7 @@
 -- Assumes nothing.
 use mathlib.Core.Path.{_≡_, refl, sym, ap, ap₂, _∙_}
 use mathlib.Core.Bool.{true, false}
-use mathlib.Core.List.{List, [], _∷_, map}
+use mathlib.Core.List.{List, map}
 use Prim.Native.Nat.{ℕ, _+_, _≤_, _<_}
 use native.Mathlib.Omega.{arith}
 use lib.ListN.{length}
@@ -22,7 +22,8 @@ use Rattle.pools.proofs.Gains.{length-event}
 use Rattle.pools.proofs.Chains.{both-passed, then-absorbed}
 use Rattle.pools.proofs.Acceptance.{request-room, write-room, update-room, event-room}
 use Rattle.pools.proofs.Runs.{effectTo, outcomeTo, outcome-agrees, outcome-keeps, state-keeps, run-agrees, state-agrees, run-more, state-more}
-use Rattle.quotas.specs.Entries.{Quotas}
+use Rattle.quotas.specs.Entries.{leftWith}
+use Rattle.reference.proofs.ListReadings.{lists-mapped}
 use Rattle.keyed.specs.declared.Keyed.{Keyed}
 use Rattle.keyed.specs.Scheduler.{inputPool}
 use Rattle.keyed.specs.State.{fresh}
@@ -181,14 +182,12 @@ module _ (key : List ℕ) where
   -- ---- the lists that the calls return
 
   list-concrete : (c : Entry) (o : Outcome Reference) → listAfter c (concreteOutcome key o) ≡ listAfter c o
-  unfolding listAfter recordAfter concreteOutcome
+  unfolding listAfter leftWith recordAfter concreteOutcome
   list-concrete c o = refl
 
   lists-concrete : (calls : List Entry) (os : List (Outcome Reference)) → listsAfter calls (map (concreteOutcome key) os) ≡ listsAfter calls os
   unfolding listsAfter
-  lists-concrete [] os = refl
-  lists-concrete (c ∷ calls) [] = refl
-  lists-concrete (c ∷ calls) (o ∷ os) = ap₂ (λ (q : Quotas) (qs : List Quotas). q ∷ qs) (list-concrete c o) (lists-concrete calls os)
+  lists-concrete = lists-mapped (concreteOutcome key) listAfter listAfter list-concrete
 
   run-lists : (calls : List Entry) → listsLeft calls (run key calls) ≡ listsAfter calls (run key calls)
   unfolding run

@@ -1,9 +1,9 @@
 -- The reference model's reading of a list, record by record, is the station's.
 -- Assumes nothing.
-use mathlib.Core.Path.{_≡_, refl, sym, ap, ap₂, _∙_}
+use mathlib.Core.Path.{_≡_, refl, sym, ap, _∙_}
 use mathlib.Core.Bool.{true, false}
-use mathlib.Core.List.{List, [], _∷_, map}
-use Prim.Native.Nat.{ℕ, suc}
+use mathlib.Core.List.{List, map}
+use Prim.Native.Nat.{ℕ}
 use native.Mathlib.Omega.{arith}
 use lib.Dec.{eqb, ltb}
 use lib.ListN.{length}
@@ -14,9 +14,9 @@ use Rattle.pools.specs.Calls.{runFrom, outcome}
 use Rattle.pools.proofs.Chains.{then-nothing, both-passed}
 use Rattle.quotas.specs.declared.Quota.{Quota}
 use Rattle.quotas.specs.Records.{malformedQuotas, quotasNumber, eventQuotasNumber}
-use Rattle.quotas.specs.Entries.{Quotas, without, within}
+use Rattle.quotas.specs.Entries.{Quotas, without, within, leftWith}
 use Rattle.quotas.proofs.Left.{passed-alone}
-use Rattle.reference.proofs.ListReadings.{faulty-is, event-is, plain-charged, event-charged, settled-list}
+use Rattle.reference.proofs.ListReadings.{faulty-is, event-is, plain-charged, event-charged, settled-list, lists-each}
 use Rattle.keyed.specs.declared.Keyed.{Keyed}
 use Rattle.keyed.specs.Calls.{Call, event, request, update, write, inputNumber}
 use Rattle.keyed.specs.Entries.{Entry, taking, listNumber, entryNumber, entryStep, chargedFor, quotasLeft, listLeft}
@@ -64,14 +64,12 @@ list-is s rs c =
     settled-list (entryStep s (taking (within rs) c)) (addsTo c) (chargedFor c rs) rs (λ t d. unfold recordAfter in charges s rs c t d)
 
 left-is : (s : Keyed) (q : Quotas) (c : Call) → listLeft (taking q c) (entryStep s (taking q c)) ≡ listAfter (taking q c) (entryStep s (taking q c))
-unfolding listLeft listAfter
+unfolding listLeft listAfter leftWith
 left-is s without c = refl
 left-is s (within rs) c = ap within (list-is s rs c)
 
 -- along a run
 pub lists-left : (calls : List Entry) (place : ℕ) (s : Keyed)
     → listsLeft calls (runFrom (λ place. entryStep) place s calls) ≡ listsAfter calls (runFrom (λ place. entryStep) place s calls)
-unfolding listsLeft listsAfter runFrom
-lists-left [] place s = refl
-lists-left (e ∷ calls) place s =
-    ap₂ (λ (q : Quotas) (l : List Quotas). q ∷ l) (left-is s (e .quotas) (e .call)) (lists-left calls (suc place) (entryStep s e .effect .next))
+unfolding listsLeft listsAfter
+lists-left = lists-each (λ place. entryStep) listLeft listAfter (λ place s e. left-is s (e .quotas) (e .call))

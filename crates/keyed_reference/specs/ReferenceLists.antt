@@ -1,6 +1,6 @@
 -- The reference model's reading of a list of quotas for the calls of the keyed scheduler: record by record, with no place looked for.
 -- Assumes nothing.
-use mathlib.Core.List.{List, [], _∷_, map}
+use mathlib.Core.List.{List, map}
 use mathlib.Core.Bool.{cond}
 use Prim.Native.Nat.{ℕ, _+_}
 use lib.Dec.{eqb}
@@ -8,7 +8,7 @@ use lib.ListN.{length}
 use Rattle.laws.specs.Refusals.{refuse}
 use Rattle.pools.specs.Calls.{Outcome}
 use Rattle.quotas.specs.declared.Quota.{Quota}
-use Rattle.quotas.specs.Entries.{Quotas, without, within}
+use Rattle.quotas.specs.Entries.{Quotas, without, within, leftWith, listsWith}
 use Rattle.reference.specs.ReferenceLists.{faulty, eventByRecords, settledRecord}
 use Rattle.keyed.specs.Calls.{Call, event, request, update, write}
 use Rattle.keyed.specs.Entries.{Entry}
@@ -34,14 +34,8 @@ recordAfter c o r = settledRecord o (addsTo c (r .source)) r
 
 -- the list that a call returns
 unfoldable pub listAfter : {S : Type 0} → Entry → Outcome S → Quotas
-listAfter e o = afterOf (e .quotas)
-  where
-    afterOf : Quotas → Quotas
-    afterOf without = without
-    afterOf (within rs) = within (map (recordAfter (e .call) o) rs)
+listAfter e o = leftWith (map (recordAfter (e .call) o)) (e .quotas)
 
 -- the lists that the calls return, by their outcomes
 unfoldable pub listsAfter : {S : Type 0} → List Entry → List (Outcome S) → List Quotas
-listsAfter [] os = []
-listsAfter (c ∷ cs) [] = []
-listsAfter (c ∷ cs) (o ∷ os) = listAfter c o ∷ listsAfter cs os
+listsAfter calls os = listsWith listAfter calls os

@@ -4,7 +4,7 @@ use mathlib.Core.Bool.{Bool, true, false}
 use mathlib.Core.List.{List, [], _∷_}
 use Prim.Native.Nat.{ℕ, _+_}
 use Rattle.pools.specs.Calls.{Outcome, runFrom, stateFrom}
-use Rattle.quotas.specs.Entries.{Quotas}
+use Rattle.quotas.specs.Entries.{Quotas, listsWith}
 use Rattle.keyed.specs.declared.Keyed.{Keyed}
 use Rattle.keyed.specs.State.{fresh}
 use Rattle.keyed.specs.Calls.{Call, event, request, update, write}
@@ -19,9 +19,7 @@ stateAfter key calls = stateFrom (λ place. entryStep) 0 (fresh key) calls
 
 -- the lists that the calls return
 unfoldable pub listsLeft : List Entry → List (Outcome Keyed) → List Quotas
-listsLeft [] os = []
-listsLeft (c ∷ cs) [] = []
-listsLeft (c ∷ cs) (o ∷ os) = listLeft c o ∷ listsLeft cs os
+listsLeft calls os = listsWith listLeft calls os
 
 -- a sum over the calls of a run and their outcomes
 unfoldable pub tally : {S : Type 0} → (Entry → Outcome S → ℕ) → List Entry → List (Outcome S) → ℕ

@@ -1,7 +1,7 @@
 -- Calls that take a list of quotas, and calls without one (02 (x)): the number that refuses each, what it gives, and the list it returns.
 -- Assumes nothing.
 use mathlib.Core.Bool.{cond}
-use mathlib.Core.List.{List}
+use mathlib.Core.List.{List, [], _∷_}
 use Prim.Native.Nat.{ℕ}
 use lib.Dec.{eqb, ltb}
 use lib.ListN.{length}
@@ -66,9 +66,15 @@ unfoldable pub quotasLeft : {S : Type 0} → Call → List Quota → Outcome S �
 quotasLeft c rs o = settledList o (chargedFor c rs) rs
 
 -- without a list there is none to return
+unfoldable pub leftWith : (List Quota → List Quota) → Quotas → Quotas
+leftWith f without = without
+leftWith f (within rs) = within (f rs)
+
 unfoldable pub listLeft : {S : Type 0} → Entry → Outcome S → Quotas
-listLeft e o = leftOf (e .quotas)
-  where
-    leftOf : Quotas → Quotas
-    leftOf without = without
-    leftOf (within rs) = within (quotasLeft (e .call) rs o)
+listLeft e o = leftWith (λ rs. quotasLeft (e .call) rs o) (e .quotas)
+
+-- the lists that calls of any kind return, by their outcomes, where f says what each returns
+unfoldable pub listsWith : {E S : Type 0} → (E → Outcome S → Quotas) → List E → List (Outcome S) → List Quotas
+listsWith f [] os = []
+listsWith f (c ∷ cs) [] = []
+listsWith f (c ∷ cs) (o ∷ os) = f c o ∷ listsWith f cs os

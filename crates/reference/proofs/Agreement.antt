@@ -2,7 +2,7 @@
 -- Assumes nothing.
 use mathlib.Core.Path.{_≡_, refl, sym, ap, ap₂, _∙_}
 use mathlib.Core.Bool.{Bool, false}
-use mathlib.Core.List.{List, [], _∷_, map}
+use mathlib.Core.List.{List, [], map}
 use Prim.Native.Nat.{ℕ, _-_, _*_, _<_}
 use native.Mathlib.Omega.{arith}
 use lib.Dec.{ltb}
@@ -24,11 +24,11 @@ use Rattle.pools.specs.Draws.{Drawn, tries, shuffled, tryAt}
 use Rattle.pools.specs.Calls.{Call, event, request, update, write, draw, shuffle, inputBuffer, inputNumber, callNumber, callEffect, callFound, callValue, Outcome, outcome, runFrom, stateFrom}
 use Rattle.pools.proofs.Chains.{both-passed}
 use Rattle.pools.proofs.Runs.{outcome-keeps, outcome-agrees, state-keeps, run-agrees, state-agrees, run-more, state-more}
-use Rattle.quotas.specs.Entries.{Quotas, Entry, entryNumber, entryStep}
+use Rattle.quotas.specs.Entries.{Entry, entryNumber, entryStep, leftWith}
 use Rattle.quotas.proofs.Entries.{entry-number}
 use Rattle.reference.specs.Runs.{run, stateAfter, listsLeft}
 use Rattle.reference.specs.ReferenceLists.{byRecords, recordAfter, listAfter, listsAfter}
-use Rattle.reference.proofs.ListReadings.{by-records, lists-left}
+use Rattle.reference.proofs.ListReadings.{by-records, lists-left, lists-mapped}
 use Rattle.reference.specs.Reference.{Reference, empty, poolContents, dueAt, referenceTry, referenceNumber, referenceEntryNumber, referenceEffect, referenceFound, referenceValue, referenceStep, referenceRun, referenceAfter}
 use Rattle.reference.specs.Agreement.{concrete, concreteOutcome, RunIsSteps, Agrees}
 use Rattle.reference.proofs.Invariant.{Sound, sound-empty, sound-event, empty-contents}
@@ -182,14 +182,12 @@ fresh-concrete =
 -- ---- the lists that the calls return
 
 list-concrete : (c : Entry) (o : Outcome Reference) → listAfter c (concreteOutcome o) ≡ listAfter c o
-unfolding listAfter recordAfter concreteOutcome
+unfolding listAfter leftWith recordAfter concreteOutcome
 list-concrete c o = refl
 
 lists-concrete : (calls : List Entry) (os : List (Outcome Reference)) → listsAfter calls (map concreteOutcome os) ≡ listsAfter calls os
 unfolding listsAfter
-lists-concrete [] os = refl
-lists-concrete (c ∷ calls) [] = refl
-lists-concrete (c ∷ calls) (o ∷ os) = ap₂ (λ (q : Quotas) (qs : List Quotas). q ∷ qs) (list-concrete c o) (lists-concrete calls os)
+lists-concrete = lists-mapped concreteOutcome listAfter listAfter list-concrete
 
 run-lists : (calls : List Entry) → listsLeft calls (run calls) ≡ listsAfter calls (run calls)
 unfolding run

@@ -8,7 +8,7 @@ use Rattle.pools.specs.State.{fresh}
 use Rattle.pools.specs.Calls as Calls
 use Rattle.pools.specs.Calls.{Call, Outcome, step, runFrom}
 use Rattle.quotas.specs.declared.Quota.{Quota}
-use Rattle.quotas.specs.Entries.{Quotas, without, within, taking, entryStep, listLeft}
+use Rattle.quotas.specs.Entries.{Quotas, without, within, taking, entryStep, listLeft, leftWith, listsWith}
 use Rattle.quotas.specs.Runs.{Taken, takenBy, returned, handedOn}
 use Rattle.quotas.proofs.Entries.{as-before}
 use Rattle.reference.specs.Runs.{run, listsLeft, RunAsBefore, takenEntries, HandedIsRun, HandedLists, NoListLeft}
@@ -45,7 +45,7 @@ lists-from :
     (calls : List Call) (place : ℕ) (s : Fortuna) (rs : List Quota) →
     listsLeft (takenEntries (handedOn s rs calls)) (runFrom (λ place. entryStep) place s (takenEntries (handedOn s rs calls)))
     ≡ map (λ (t : Taken). within (returned t)) (handedOn s rs calls)
-unfolding runFrom handedOn takenBy listsLeft listLeft returned
+unfolding runFrom handedOn takenBy listsLeft listsWith leftWith listLeft returned
 lists-from [] place s rs = refl
 lists-from (c ∷ calls) place s rs =
     ap (λ (l : List Quotas). within (returned (takenBy s rs c)) ∷ l)
@@ -57,7 +57,7 @@ handed-lists rs calls = lists-from calls 0 fresh rs
 
 none-from : (calls : List Call) (place : ℕ) (s : Fortuna)
     → listsLeft (map (taking without) calls) (runFrom (λ place. entryStep) place s (map (taking without) calls)) ≡ map (λ (c : Call). without) calls
-unfolding runFrom listsLeft listLeft
+unfolding runFrom listsLeft listsWith leftWith listLeft
 none-from [] place s = refl
 none-from (c ∷ calls) place s = ap (λ (l : List Quotas). without ∷ l) (none-from calls (suc place) (entryStep s (taking without c) .effect .next))
 

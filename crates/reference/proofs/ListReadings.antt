@@ -16,7 +16,7 @@ use Rattle.pools.specs.Events.{headerLength, gain}
 use Rattle.pools.specs.Calls.{Call, event, request, update, write, draw, shuffle, Outcome, runFrom}
 use Rattle.quotas.specs.declared.Quota.{Quota}
 use Rattle.quotas.specs.Records.{maxQuotas, isListed, quotaOf, repeats, overspent, malformedQuotas, quotasNumber, eventQuotasNumber, charged, cleared, unspent}
-use Rattle.quotas.specs.Entries.{Quotas, without, within, Entry, taking, listNumber, entryStep, chargedFor, settledList, quotasLeft, listLeft}
+use Rattle.quotas.specs.Entries.{Quotas, without, within, Entry, taking, listNumber, entryStep, chargedFor, settledList, quotasLeft, leftWith, listLeft, listsWith}
 use Rattle.quotas.proofs.Lists.{quota-here, quota-later, repeats-not, listed-not, charged-each}
 use Rattle.quotas.proofs.Left.{passed-alone}
 use Rattle.quotas.proofs.Runs.{event-allowed}
@@ -213,14 +213,34 @@ list-is s rs c =
     settled-list (entryStep s (taking (within rs) c)) (addsTo c) (chargedFor c rs) rs (λ t d. unfold recordAfter in charges s rs c t d)
 
 left-is : (s : Fortuna) (q : Quotas) (c : Call) → listLeft (taking q c) (entryStep s (taking q c)) ≡ listAfter (taking q c) (entryStep s (taking q c))
-unfolding listLeft listAfter
+unfolding listLeft listAfter leftWith
 left-is s without c = refl
 left-is s (within rs) c = ap within (list-is s rs c)
 
--- along a run
+-- ---- along a run of calls of any kind
+
+module _ {E S : Type 0} where
+  -- two ways to say what each call of a run returns
+  pub lists-each :
+      (f : ℕ → S → E → Outcome S) (g h : E → Outcome S → Quotas) →
+      ((place : ℕ) (s : S) (e : E) → g e (f place s e) ≡ h e (f place s e)) → (calls : List E) (place : ℕ) (s : S) →
+      listsWith g calls (runFrom f place s calls) ≡ listsWith h calls (runFrom f place s calls)
+  unfolding listsWith runFrom
+  lists-each f g h k [] place s = refl
+  lists-each f g h k (e ∷ calls) place s =
+      ap₂ (λ (q : Quotas) (l : List Quotas). q ∷ l) (k place s e) (lists-each f g h k calls (suc place) (f place s e .effect .next))
+
+  -- of outcomes that are those of a model
+  pub lists-mapped :
+      {B : Type 0} (to : Outcome B → Outcome S) (g : E → Outcome S → Quotas) (h : E → Outcome B → Quotas) →
+      ((e : E) (o : Outcome B) → g e (to o) ≡ h e o) → (calls : List E) (os : List (Outcome B)) →
+      listsWith g calls (map to os) ≡ listsWith h calls os
+  unfolding listsWith
+  lists-mapped to g h k [] os = refl
+  lists-mapped to g h k (e ∷ calls) [] = refl
+  lists-mapped to g h k (e ∷ calls) (o ∷ os) = ap₂ (λ (q : Quotas) (l : List Quotas). q ∷ l) (k e o) (lists-mapped to g h k calls os)
+
 pub lists-left : (calls : List Entry) (place : ℕ) (s : Fortuna)
     → listsLeft calls (runFrom (λ place. entryStep) place s calls) ≡ listsAfter calls (runFrom (λ place. entryStep) place s calls)
-unfolding listsLeft listsAfter runFrom
-lists-left [] place s = refl
-lists-left (e ∷ calls) place s =
-    ap₂ (λ (q : Quotas) (l : List Quotas). q ∷ l) (left-is s (e .quotas) (e .call)) (lists-left calls (suc place) (entryStep s e .effect .next))
+unfolding listsLeft listsAfter
+lists-left = lists-each (λ place. entryStep) listLeft listAfter (λ place s e. left-is s (e .quotas) (e .call))

@@ -8,7 +8,7 @@ use lib.ListN.{length}
 use Rattle.laws.specs.Refusals.{refuse}
 use Rattle.pools.specs.Calls.{Call, event, request, update, write, draw, shuffle, Outcome}
 use Rattle.quotas.specs.declared.Quota.{Quota}
-use Rattle.quotas.specs.Entries.{Quotas, without, within, Entry}
+use Rattle.quotas.specs.Entries.{Quotas, without, within, leftWith, Entry, listsWith}
 
 -- whether a record passes a test
 unfoldable pub some : (Quota → Bool) → List Quota → Bool
@@ -65,14 +65,8 @@ recordAfter c o r = settledRecord o (addsTo c (r .source)) r
 
 -- the list that a call returns
 unfoldable pub listAfter : {S : Type 0} → Entry → Outcome S → Quotas
-listAfter e o = afterOf (e .quotas)
-  where
-    afterOf : Quotas → Quotas
-    afterOf without = without
-    afterOf (within rs) = within (map (recordAfter (e .call) o) rs)
+listAfter e o = leftWith (map (recordAfter (e .call) o)) (e .quotas)
 
 -- the lists that the calls return, by their outcomes
 unfoldable pub listsAfter : {S : Type 0} → List Entry → List (Outcome S) → List Quotas
-listsAfter [] os = []
-listsAfter (c ∷ cs) [] = []
-listsAfter (c ∷ cs) (o ∷ os) = listAfter c o ∷ listsAfter cs os
+listsAfter calls os = listsWith listAfter calls os

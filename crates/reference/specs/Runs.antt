@@ -1,13 +1,13 @@
 -- Runs of calls, each with the list that it takes, or none (02 (x)).
 -- Assumes nothing.
 use mathlib.Core.Path.{_≡_}
-use mathlib.Core.List.{List, [], _∷_, map}
+use mathlib.Core.List.{List, map}
 use Rattle.pools.specs.declared.Fortuna.{Fortuna}
 use Rattle.pools.specs.State.{fresh}
 use Rattle.pools.specs.Calls as Calls
 use Rattle.pools.specs.Calls.{Call, Outcome, runFrom, stateFrom}
 use Rattle.quotas.specs.declared.Quota.{Quota}
-use Rattle.quotas.specs.Entries.{Quotas, without, within, Entry, taking, entryStep, listLeft}
+use Rattle.quotas.specs.Entries.{Quotas, without, within, Entry, taking, entryStep, listLeft, listsWith}
 use Rattle.quotas.specs.Runs.{Taken, returned, handedOn}
 
 -- from the fresh state: the outcomes of the calls, and the state that they leave
@@ -19,9 +19,7 @@ stateAfter calls = stateFrom (λ place. entryStep) 0 fresh calls
 
 -- the lists that the calls return
 unfoldable pub listsLeft : List Entry → List (Outcome Fortuna) → List Quotas
-listsLeft [] os = []
-listsLeft (c ∷ cs) [] = []
-listsLeft (c ∷ cs) (o ∷ os) = listLeft c o ∷ listsLeft cs os
+listsLeft calls os = listsWith listLeft calls os
 
 -- a run of calls without a list is as before
 abbrev pub RunAsBefore : Type 0
