@@ -35,10 +35,10 @@ use Rattle.pools.proofs.Acceptance.{event-room}
 use Rattle.pools.proofs.Gains.{length-event}
 use Rattle.pools.proofs.GainedPools.{gained-pool-is}
 use Rattle.keyed.specs.Scheduler.{inputPool, empties, divides, outputPool}
-use Rattle.keyed.specs.State.{poolAt, counterOf, timerMoved, malformedFields, malformed}
+use Rattle.keyed.specs.State.{poolAt, picked, counterOf, timerMoved, malformedFields, malformed}
 use Rattle.keyed.specs.Refusals.{maxStep, stepNumber, eventNumber}
-use Rattle.keyed.specs.Effects.{gained, emptiedInto, emptiedIfTaken, stepped, addEvent}
-use Rattle.keyed.specs.Calls.{event, picked, callNumber, callEffect}
+use Rattle.keyed.specs.Effects.{gained, emptiedInto, emptiedByStep, stepped, addEvent}
+use Rattle.keyed.specs.Calls.{event, callNumber, callEffect}
 use Rattle.keyed.specs.Promises.{Emptiable}
 use Rattle.keyed.specs.declared.Keyed.{Keyed}
 use Rattle.keyed.proofs.Periods.{greatest-le}
@@ -204,8 +204,7 @@ module _ (s : Keyed) (source : ℕ) (d : List ℕ) (ok : callNumber s (event sou
     stored-is =
         let is : q ≡ absorb (poolAt s (picked s)) (eventBytes source d) =
         grown ∙ ap (λ (i : ℕ). Pools.gainedPool (poolAt s i) source d) placed ∙ gained-pool s source d ok in
-        let here : picked s ≡ inputPool (s .«scheduler_key») (s .step) = unfold picked in refl in
-        rw (is, placed, here)
+        rw (is, placed)
 
     -- what the step empties can be emptied
     pub emptiable-now :
@@ -215,12 +214,12 @@ module _ (s : Keyed) (source : ℕ) (d : List ℕ) (ok : callNumber s (event sou
     -- and the next step
     pub taken-is : (out : ℕ) (x : Keyed) → out ≡ outputPool (s .step) → x ≡ emptiedInto (withPool s place q) out → empties (s .step) ≡ true
         → atStep x (s .step + 1) ≡ addEvent s (eventBytes source d) .next
-    unfolding addEvent emptiedIfTaken
+    unfolding addEvent emptiedByStep
     taken-is out x e f u =
         ap (λ (y : Keyed). atStep y (s .step + 1)) (f ∙ ap₂ emptiedInto stored-is e) ∙ (unfold stepped emptiedInto gained in rw u)
 
     pub kept-is : (x : Keyed) → x ≡ withPool s place q → empties (s .step) ≡ false → atStep x (s .step + 1) ≡ addEvent s (eventBytes source d) .next
-    unfolding addEvent emptiedIfTaken
+    unfolding addEvent emptiedByStep
     kept-is x f u = ap (λ (y : Keyed). atStep y (s .step + 1)) (f ∙ stored-is) ∙ (unfold stepped gained in rw u)
 
 -- the number of an event, from the tests that the code made

@@ -21,7 +21,7 @@ use Rattle.pools.specs.Effects.{Effect}
 use Rattle.pools.proofs.Acceptance.{OutputPassed, not-spent, request-passed, request-short, write-size, write-passed, update-size, update-passed, update-room}
 use Rattle.pools.proofs.Serving.{Ready, ready-reseeded, served-next, served-buffer}
 use Rattle.keyed.specs.State.{counterOf, malformed}
-use Rattle.keyed.specs.Effects.{served, randomDataFrom, randomData, updateSeed, writeSeed}
+use Rattle.keyed.specs.Effects.{served, randomDataFrom, randomData, reseedWithSeed, updateSeed, writeSeed}
 use Rattle.keyed.specs.Calls.{request, update, write, callNumber, callEffect}
 use Rattle.keyed.specs.Promises.{Servable}
 use Rattle.keyed.specs.declared.Keyed.{Keyed}
@@ -129,6 +129,11 @@ module _ (s : Keyed) (seed : List ℕ) (ok : callNumber s (write seed) ≡ 0) wh
 
 -- ---- a seed update: the seed reseeded the generator to k
 
+-- the request that it makes is one from K and C as the seed leaves them
+pub update-is : (s : Keyed) (seed : List ℕ) → updateSeed s seed ≡ randomDataFrom s (decode (encode (reseed (decode (s .generator)) seed))) seedSize
+unfolding updateSeed reseedWithSeed randomData randomDataFrom served
+update-is s seed = refl
+
 module _ (s : Keyed) (seed : List ℕ) (k : Generator) (mixed : k ≡ reseeded (s .generator) seed) (ok : callNumber s (update seed) ≡ 0) where
   size : length seed ≡ seedSize
   unfolding callNumber
@@ -157,10 +162,11 @@ module _ (s : Keyed) (seed : List ℕ) (k : Generator) (mixed : k ≡ reseeded (
   pub update-effect : (next : Keyed) (ys : List ℕ)
       → (next ≡ randomDataFrom s (decode k) (length seed) .next) × (ys ≡ randomDataFrom s (decode k) (length seed) .buffer)
       → Leaves (callEffect s (update seed)) next ys
-  unfolding callEffect updateSeed
+  unfolding callEffect
   update-effect next ys h =
-      subst (λ (g : Generator). Leaves (randomDataFrom s (decode g) seedSize) next ys) mixed-is
-      (subst (λ (n : ℕ). Leaves (randomDataFrom s (decode k) n) next ys) size (leaves-from s k (length seed) next ys h))
+      subst (λ (e : Effect Keyed). Leaves e next ys) (sym (update-is s seed))
+      (subst (λ (g : Generator). Leaves (randomDataFrom s (decode g) seedSize) next ys) mixed-is
+      (subst (λ (n : ℕ). Leaves (randomDataFrom s (decode k) n) next ys) size (leaves-from s k (length seed) next ys h)))
 
 -- ---- the number of each call, from the tests that the code made
 

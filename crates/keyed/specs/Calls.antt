@@ -8,8 +8,7 @@ use Rattle.pools.specs.Events.{eventBytes}
 use Rattle.pools.specs.Refusals.{seedSize, requestInput, requestState, requestNumber, seedInput, writeNumber, updateInput, updateState, updateNumber}
 use Rattle.pools.specs.Effects.{Effect}
 use Rattle.pools.specs.Calls.{Outcome, outcome}
-use Rattle.keyed.specs.Scheduler.{inputPool}
-use Rattle.keyed.specs.State.{poolAt, counterOf, malformed}
+use Rattle.keyed.specs.State.{poolAt, picked, counterOf, malformed}
 use Rattle.keyed.specs.Refusals.{eventInput, eventState, eventNumber}
 use Rattle.keyed.specs.Effects.{addEvent, randomData, updateSeed, writeSeed}
 use Rattle.keyed.specs.declared.Keyed.{Keyed}
@@ -27,10 +26,6 @@ inputBuffer (event source content) = []
 inputBuffer (request buffer) = buffer
 inputBuffer (update seed) = seed
 inputBuffer (write seed) = seed
-
--- the pool that the state's step picks
-unfoldable pub picked : Keyed → ℕ
-picked s = inputPool (s .«scheduler_key») (s .step)
 
 -- a call's input numbers (11, 13, 14, 15, 36), by its arguments alone
 unfoldable pub inputNumber : Call → ℕ

@@ -10,8 +10,8 @@ use Rattle.generator.specs.Steps.{GeneratorState, decode, encode, reseed, pseud
 use Rattle.pools.specs.Schedule.{countRequest}
 use Rattle.pools.specs.Refusals.{seedSize}
 use Rattle.pools.specs.Effects.{Effect}
-use Rattle.keyed.specs.Scheduler.{inputPool, empties, outputPool}
-use Rattle.keyed.specs.State.{poolAt}
+use Rattle.keyed.specs.Scheduler.{empties, outputPool}
+use Rattle.keyed.specs.State.{poolAt, picked}
 use Rattle.keyed.specs.declared.Keyed.{Keyed}
 
 -- ---- an event
@@ -19,7 +19,7 @@ use Rattle.keyed.specs.declared.Keyed.{Keyed}
 -- the pool that step t picks gains bytes
 unfoldable pub gained : Keyed → List ℕ → Keyed
 gained s bytes =
-    let i = inputPool (s .«scheduler_key») (s .step) in
+    let i = picked s in
     record {
       generator = s .generator;
       pools = set (s .pools) i (absorb (poolAt s i) bytes);
@@ -31,7 +31,7 @@ gained s bytes =
       step = s .step;
     }
 
--- pool i is emptied into the key, by a reseed with D(pool)
+-- pool i is emptied into the key, by a reseed with D(pool); the requests on the key start anew (02 (iv))
 unfoldable pub emptiedInto : Keyed → ℕ → Keyed
 emptiedInto s i =
     record {
@@ -45,9 +45,9 @@ emptiedInto s i =
       step = s .step;
     }
 
--- what the step then empties
-unfoldable pub emptiedIfTaken : Keyed → Keyed
-emptiedIfTaken s = cond (empties (s .step)) (emptiedInto s (outputPool (s .step))) s
+-- the state once the step has emptied its pool, if it empties one
+unfoldable pub emptiedByStep : Keyed → Keyed
+emptiedByStep s = cond (empties (s .step)) (emptiedInto s (outputPool (s .step))) s
 
 -- the next step
 unfoldable pub stepped : Keyed → Keyed
@@ -66,7 +66,7 @@ stepped s =
 -- the event, then what its step empties, then the next step
 unfoldable pub addEvent : Keyed → List ℕ → Effect Keyed
 addEvent s bytes =
-    record { emptied = cond (empties (s .step)) 1 0; buffer = []; next = stepped (emptiedIfTaken (gained s bytes)); trace = [] }
+    record { emptied = cond (empties (s .step)) 1 0; buffer = []; next = stepped (emptiedByStep (gained s bytes)); trace = [] }
 
 -- ---- requests and seeds
 
@@ -93,9 +93,23 @@ randomDataFrom s w n =
 unfoldable pub randomData : Keyed → ℕ → Effect Keyed
 randomData s n = randomDataFrom s (decode (s .generator)) n
 
--- the seed reseeds, then 64 bytes overwrite it; a write: only the request
+-- the generator reseeded with a seed
+unfoldable pub reseedWithSeed : Keyed → List ℕ → Keyed
+reseedWithSeed s seed =
+    record {
+      generator = encode (reseed (decode (s .generator)) seed);
+      pools = s .pools;
+      «last_reseed» = s .«last_reseed»;
+      «reseed_count» = s .«reseed_count»;
+      reseeded = s .reseeded;
+      «key_requests» = s .«key_requests»;
+      «scheduler_key» = s .«scheduler_key»;
+      step = s .step;
+    }
+
+-- an update: the seed reseeds, then 64 bytes overwrite it; a write: only the request
 unfoldable pub updateSeed : Keyed → List ℕ → Effect Keyed
-updateSeed s seed = randomDataFrom s (decode (encode (reseed (decode (s .generator)) seed))) seedSize
+updateSeed s seed = randomData (reseedWithSeed s seed) seedSize
 
 unfoldable pub writeSeed : Keyed → Effect Keyed
 writeSeed s = randomData s seedSize

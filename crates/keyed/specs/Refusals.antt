@@ -25,5 +25,6 @@ eventInput source n = refuse (ltb maxSource source) 11 (refuse (eqb n 0 || ltb m
 unfoldable pub eventState : Bool → ℕ → ℕ → ℕ → ℕ → ℕ
 eventState malformed size n c t = Pools.andThen (Pools.eventState malformed size n) (stepNumber c t)
 
+-- the input's number, then the state's
 unfoldable pub eventNumber : Bool → ℕ → ℕ → ℕ → ℕ → ℕ → ℕ
 eventNumber malformed size source n c t = Pools.andThen (eventInput source n) (eventState malformed size n c t)

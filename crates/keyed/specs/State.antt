@@ -14,6 +14,7 @@ use Rattle.pools.specs.Events.{poolCount}
 use Rattle.pools.specs.Pool.{malformedPool}
 use Rattle.pools.specs.State.{anyPool, unseededCounted}
 use Rattle.pools.specs.Collected.{nth}
+use Rattle.keyed.specs.Scheduler.{inputPool}
 use Rattle.keyed.specs.declared.Keyed.{Keyed}
 
 -- the fresh start under a scheduler key: all else 0, pools empty
@@ -34,11 +35,15 @@ fresh key =
 unfoldable pub poolAt : Keyed → ℕ → Hasher
 poolAt s i = nth (s .pools) i
 
+-- the pool that the state's step picks
+unfoldable pub picked : Keyed → ℕ
+picked s = inputPool (s .«scheduler_key») (s .step)
+
 -- C
 unfoldable pub counterOf : Keyed → ℕ
 counterOf s = decode (s .generator) .count
 
--- 21: mark, flag and reseed number stay at 0
+-- 21: mark, flag or reseed number is not 0
 unfoldable pub timerMoved : Bool → ℕ → ℕ → Bool
 timerMoved reseeded last count = reseeded || not (eqb last 0 && eqb count 0)
 

@@ -22,12 +22,12 @@ ghost use mathlib.Core.Bool.{cond};
 ghost use lib.ListN.{length};
 ghost use Rattle.pools.specs.Events.{eventBytes};
 ghost use Rattle.keyed.specs.Scheduler.{empties};
-ghost use Rattle.keyed.specs.State.{fresh, malformed};
+ghost use Rattle.keyed.specs.State.{fresh, picked, malformed};
 ghost use Rattle.keyed.specs.Effects.{emptiedInto, addEvent};
-ghost use Rattle.keyed.specs.Calls.{event, request, update, write, picked, callNumber, step};
+ghost use Rattle.keyed.specs.Calls.{event, request, update, write, callNumber, step};
 ghost use Rattle.keyed.specs.Promises.{Emptiable, Servable, ServedFrom, Gives, GivesBytes};
 
-// The state. scheduler_key is the key given to the fresh start, step is 02's t: the accepted events so far. key_requests is 02's number of
+// The state. scheduler_key is the key given to the fresh start, step is 02's t: the step of the next event. key_requests is 02's number of
 // requests on one key: those accepted since the last emptying or the fresh start, seed calls included, stopping at 65,535. 01's mark, reseed
 // number and flag (last_reseed, reseed_count, reseeded) stay at 0: no clock applies.
 #[repr(C)]

@@ -26,12 +26,13 @@ use Rattle.quotas.specs.Entries.{leftWith}
 use Rattle.reference.proofs.ListReadings.{lists-mapped}
 use Rattle.keyed.specs.declared.Keyed.{Keyed}
 use Rattle.keyed.specs.Scheduler.{inputPool}
-use Rattle.keyed.specs.State.{fresh}
-use Rattle.keyed.specs.Effects.{randomDataFrom, randomData, updateSeed, writeSeed}
-use Rattle.keyed.specs.Calls.{Call, event, request, update, write, inputBuffer, picked, inputNumber, stateNumber, callNumber, callEffect}
+use Rattle.keyed.specs.State.{fresh, picked}
+use Rattle.keyed.specs.Effects.{randomDataFrom, randomData, writeSeed}
+use Rattle.keyed.specs.Calls.{Call, event, request, update, write, inputBuffer, inputNumber, stateNumber, callNumber, callEffect}
 use Rattle.keyed.specs.Entries.{Entry, listNumber, entryNumber, entryStep}
 use Rattle.keyed.proofs.Acceptance.{event-parts, step-left, step-room}
 use Rattle.keyed.proofs.Chains.{call-chains}
+use Rattle.keyed.proofs.Requests.{update-is}
 use Rattle.keyed_reference.specs.Runs.{run, stateAfter, listsLeft}
 use Rattle.keyed_reference.specs.ReferenceLists.{byRecords, recordAfter, listAfter, listsAfter}
 use Rattle.keyed_reference.specs.Reference.{Reference, empty, poolContents, referenceNumber, referenceEffect, referenceEntryNumber, referenceStep, referenceRun, referenceAfter}
@@ -106,8 +107,8 @@ module _ (key : List ℕ) (b : Reference) (s : Sound b) where
       ap (λ (w : GeneratorState). randomDataFrom (concrete key b) w (length buffer)) (decode-concrete key b s)
       ∙ request-agrees key b (b .generator) (length buffer)
   effect-agrees place (update seed) e =
-      unfold updateSeed in
-      ap (λ (w : GeneratorState). randomDataFrom (concrete key b) w seedSize) (updated-count seed e)
+      update-is (concrete key b) seed
+      ∙ ap (λ (w : GeneratorState). randomDataFrom (concrete key b) w seedSize) (updated-count seed e)
       ∙ request-agrees key b (reseed (b .generator) seed) seedSize
   effect-agrees place (write seed) e =
       unfold writeSeed randomData in

@@ -10,14 +10,15 @@ use Rattle.pools.specs.Effects.{unchanged}
 use Rattle.pools.specs.Calls.{effectOf, outcome}
 use Rattle.quotas.specs.Records.{maxQuotas, placeOf, isListed, quotaOf, repeats, overspent, malformedQuotas, quotasNumber, eventQuotasNumber, charged, cleared}
 use Rattle.reference.proofs.Computing.{hashing, counting, forming, refusingEvents, refusingRequests, refusingSeeds}
+use Rattle.laws.specs.Lists.{tabulate}
 use Rattle.keyed.specs.Scheduler.{empties, divides, greatest, outputPool, emptiedAt}
-use Rattle.keyed.specs.State.{poolAt, counterOf, timerMoved, malformedFields, malformed}
+use Rattle.keyed.specs.State.{fresh, poolAt, picked, counterOf, timerMoved, malformedFields, malformed}
 use Rattle.keyed.specs.Refusals.{maxStep, stepNumber, eventInput, eventState, eventNumber}
-use Rattle.keyed.specs.Effects.{gained, emptiedInto, emptiedIfTaken, stepped, addEvent, served, randomDataFrom, randomData}
-use Rattle.keyed.specs.Calls.{inputBuffer, picked, inputNumber, stateNumber, callNumber, callEffect, step}
+use Rattle.keyed.specs.Effects.{gained, emptiedInto, emptiedByStep, stepped, addEvent, served, randomDataFrom, randomData}
+use Rattle.keyed.specs.Calls.{inputBuffer, inputNumber, stateNumber, callNumber, callEffect, step}
 use Rattle.keyed.specs.Entries.{listNumber, entryNumber, entryStep, chargedFor, quotasLeft, leftBy}
 use Rattle.keyed_reference.specs.Reference.{scheduledStep}
-use Rattle.keyed_reference.specs.Boundaries.{stateWith, rowEvent, eventPool, Boundaries, OutputRow, ScheduleRow, StepRow, RoomRow, OrderRow, ListOrderRow, ClausesRow, PoolClausesRow, EveryCallRow, GainRow, EmptyRow, OwnRow, LastRow, RequestRow, SpentRow}
+use Rattle.keyed_reference.specs.Boundaries.{stateWith, page, rowEvent, eventPool, Boundaries, OutputRow, ScheduleRow, StepRow, RoomRow, OrderRow, ListOrderRow, ClausesRow, PoolClausesRow, EachRow, EveryCallRow, UnseededRow, SpentCallsRow, FullLastRow, LongRow, GainRow, EmptyRow, OwnRow, StringRow, OnlyRow, LastRow, RequestRow, CountRow, SpentRow}
 use Rattle.keyed_reference.proofs.Picks.{picks}
 
 -- the pool that a step empties
@@ -55,7 +56,7 @@ pool-clauses-row = refl
 
 -- an accepted event and a request, and lists
 doing : Unit {0}
-unfolding refusing stateWith rowEvent eventPool inputBuffer gained emptiedInto emptiedIfTaken stepped addEvent served randomDataFrom randomData callEffect
+unfolding refusing stateWith page rowEvent eventPool inputBuffer gained emptiedInto emptiedByStep stepped addEvent served randomDataFrom randomData callEffect
     effectOf outcome unchanged step countRequest maxKeyRequests
 doing = tt
 
@@ -83,6 +84,38 @@ every-call-row = refl
 gain-row : GainRow
 unfolding doing
 gain-row = rw (picks .at-33) refl
+
+each-row : EachRow
+unfolding refusing stateWith tabulate
+each-row = (refl, refl)
+
+unseeded-row : UnseededRow
+unfolding doing fresh
+unseeded-row = refl
+
+spent-calls-row : SpentCallsRow
+unfolding doing
+spent-calls-row = refl
+
+full-last-row : FullLastRow
+unfolding doing
+full-last-row = rw (picks .last) refl
+
+long-row : LongRow
+unfolding doing listing
+long-row = ((λ s out e. rw e refl), (λ s rs out e. rw e refl))
+
+string-row : StringRow
+unfolding doing
+string-row = rw (picks .at-352) refl
+
+only-row : OnlyRow
+unfolding doing
+only-row = rw (picks .at-64) refl
+
+count-row : CountRow
+unfolding doing
+count-row = refl
 
 empty-row : EmptyRow
 unfolding doing
@@ -115,11 +148,19 @@ boundaries =
       lists = list-order-row;
       clauses = clauses-row;
       poolClauses = pool-clauses-row;
+      each = each-row;
       everyCall = every-call-row;
+      unseeded = unseeded-row;
+      spentCalls = spent-calls-row;
+      fullLast = full-last-row;
+      long = long-row;
       gain = gain-row;
       empty = empty-row;
       own = own-row;
+      string = string-row;
+      only = only-row;
       last = last-row;
       request = request-row;
+      count = count-row;
       spent = spent-row;
     }

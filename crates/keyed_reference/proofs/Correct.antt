@@ -10,6 +10,7 @@ use Rattle.keyed_reference.proofs.Provenance.{provenance}
 use Rattle.keyed_reference.proofs.Counters.{no-repeat}
 use Rattle.keyed_reference.proofs.Counting.{counted, steps-made, on-one-key}
 use Rattle.keyed_reference.proofs.Left.{emptied-law}
+use Rattle.keyed_reference.proofs.Served.{served-law, refused-law, list-told, timer-law}
 
 pub keyed-run-correct : (key : List ℕ) (calls : List Entry) → KeyedRunCorrect key calls
 keyed-run-correct key calls =
@@ -24,5 +25,9 @@ keyed-run-correct key calls =
       provenance = provenance key calls;
       counters = no-repeat key calls;
       counted = counted key calls;
+      served = served-law;
+      refused = refused-law;
+      told = list-told;
+      timer = timer-law;
       key-requests = on-one-key key calls;
     }

@@ -3,7 +3,7 @@
 use mathlib.Core.Path.{_≡_, refl, sym, ap, ap₂, _∙_}
 use mathlib.Core.Bool.{Bool, true, false, cond, not, _&&_}
 use mathlib.Core.List.{List, [], _∷_, map}
-use Prim.Native.Nat.{ℕ, zero, suc, _+_, min}
+use Prim.Native.Nat.{ℕ, zero, suc, _+_, _^_, _≤_, _<_, min}
 use native.Mathlib.Omega.{arith}
 use lib.Dec.{eqb, ltb, eqb·suc-zero}
 use lib.ListN.{length, length-append}
@@ -19,6 +19,7 @@ use Rattle.reference.proofs.Counting.{counters-length}
 use Rattle.keyed.specs.declared.Keyed.{Keyed}
 use Rattle.keyed.specs.Scheduler.{empties}
 use Rattle.keyed.specs.State.{counterOf}
+use Rattle.keyed.specs.Refusals.{maxStep}
 use Rattle.keyed.specs.Calls.{Call, event, request, update, write, inputBuffer}
 use Rattle.keyed.specs.Entries.{Entry}
 use Rattle.keyed_reference.specs.Runs.{run, tally, isEvent, isUpdate}
@@ -190,11 +191,15 @@ module _ (key : List ℕ) where
         ∙ model-counts calls
         ∙ sym (ap₂ (λ (l : List (List ℕ)) (n : ℕ). length l + n) (blocks-are key calls) (ap₂ (λ (m n : ℕ). m + n) same-emptyings same-seeds))
 
+    below-end : {n : ℕ} → n ≤ maxStep → n < 2 ^ 64
+    unfolding maxStep
+    below-end h = omega arith
+
     pub steps-made : StepsMade key calls
     steps-made =
         record {
           counts = same-steps key calls ∙ model-steps calls ∙ sym same-events;
-          within = rw (same-steps key calls) (sound-after key calls .left);
+          within = rw (same-steps key calls) (below-end (sound-after key calls .left));
         }
 
   -- ---- the requests on one key

@@ -27,7 +27,7 @@ use Rattle.quotas.proofs.Left.{passed-alone}
 use Rattle.keyed.specs.declared.Keyed.{Keyed}
 use Rattle.keyed.specs.Scheduler.{empties}
 use Rattle.keyed.specs.Refusals.{stepNumber, eventInput, eventState}
-use Rattle.keyed.specs.Effects.{addEvent, randomDataFrom, randomData, updateSeed, writeSeed}
+use Rattle.keyed.specs.Effects.{addEvent, randomDataFrom, randomData, reseedWithSeed, updateSeed, writeSeed}
 use Rattle.keyed.specs.Calls.{Call, event, request, update, write, inputBuffer, inputNumber, stateNumber, callEffect, step}
 use Rattle.keyed.specs.Entries.{taking, listNumber, entryNumber, entryStep, chargedFor, quotasLeft, leftBy}
 use Rattle.keyed.proofs.Chains.{call-chains}
@@ -40,7 +40,7 @@ use Rattle.keyed_reference.proofs.Lists.{step-number}
 -- ---- which calls empty a pool
 
 accepted-emptied : (s : Keyed) (c : Call) → callEffect s c .emptied ≡ cond (isEvent c && empties (s .step)) 1 0
-unfolding callEffect addEvent randomData randomDataFrom updateSeed writeSeed isEvent
+unfolding callEffect addEvent randomData randomDataFrom updateSeed reseedWithSeed writeSeed isEvent
 accepted-emptied s (event source content) = refl
 accepted-emptied s (request buffer) = refl
 accepted-emptied s (update seed) = refl

@@ -12,6 +12,7 @@ pub mod Provenance
 pub mod Counters
 pub mod Counting
 pub mod Left
+pub mod Served
 pub mod Correct
 pub mod Picks
 pub mod Boundaries

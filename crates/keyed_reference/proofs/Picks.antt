@@ -25,6 +25,10 @@ pick-33 : inputPool rowKey 33 ≡ 23
 unfolding ciphering
 pick-33 = refl
 
+pick-64 : inputPool rowKey 64 ≡ 10
+unfolding ciphering
+pick-64 = refl
+
 pick-256 : inputPool rowKey 256 ≡ 5
 unfolding ciphering
 pick-256 = refl
@@ -46,6 +50,7 @@ picks =
     record {
       at-32 = pick-32;
       at-33 = pick-33;
+      at-64 = pick-64;
       at-256 = pick-256;
       at-352 = pick-352;
       last-but-one = pick-last-but-one;

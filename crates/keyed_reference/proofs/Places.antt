@@ -5,12 +5,12 @@ use mathlib.Core.Path.{_≡_, refl, ap}
 use mathlib.Core.List.{List, [], _∷_, _++_, List·Memᴰ}
 use Prim.Native.Nat.{ℕ}
 use lib.ListN.{length}
-use Rattle.laws.proofs.Selections.{Every}
+use Rattle.laws.proofs.Selections.{Every, Ordered}
 use Rattle.pools.specs.Events.{eventBytes}
 use Rattle.pools.specs.Effects.{Effect}
 use Rattle.pools.specs.Calls.{outcome}
 use Rattle.pools.proofs.Runs as Runs
-use Rattle.pools.proofs.Runs.{outcome-done, outcome-keeps, Grows, stays, gains, record-listed, record-alone}
+use Rattle.pools.proofs.Runs.{outcome-done, outcome-keeps, after-ordered, Grows, stays, gains, record-listed, record-alone}
 use Rattle.quotas.specs.Entries.{Quotas}
 use Rattle.keyed.specs.Calls.{Call, event, request, update, write, inputBuffer}
 use Rattle.keyed.specs.Entries.{Entry, taking}
@@ -69,6 +69,11 @@ module _ (key : List ℕ) where
   no-event : empty .events ≡ []
   unfolding empty
   no-event = refl
+
+  -- the events stand in the order of their calls
+  pub events-ordered : (calls : List Entry) → Ordered placeOf (referenceAfter key calls .events)
+  unfolding referenceAfter
+  events-ordered calls = after-ordered (referenceStep key) events placeOf step-grows empty no-event calls
 
   -- no event stands at the place of a call that is refused or is no event
   pub none-at :

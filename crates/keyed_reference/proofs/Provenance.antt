@@ -33,9 +33,9 @@ use Rattle.keyed_reference.specs.Provenance.{PoolUse, pieceOf, scheduled
 use Rattle.keyed_reference.proofs.Schedule.{input-small, scheduled-from, scheduled-soon}
 use Rattle.keyed_reference.proofs.Concrete.{pool-concrete, decode-concrete}
 use Rattle.keyed_reference.proofs.Agreement.{step-agrees, sound-after, agrees, same-number, same-steps}
-use Rattle.keyed_reference.proofs.Places.{none-at, event-listed, event-alone}
+use Rattle.keyed_reference.proofs.Places.{events-ordered, none-at, event-listed, event-alone}
 use Rattle.keyed_reference.proofs.Tracing.{erased-map, used-now, run-tied, run-state}
-use Rattle.keyed_reference.proofs.Uses.{entering-booked, booked-enters}
+use Rattle.keyed_reference.proofs.Uses.{uses-ordered, entering-booked, booked-enters}
 
 -- ---- the traced station, one call more
 
@@ -257,6 +257,9 @@ module _ (key : List ℕ) where
   provenance calls =
       record {
         uses = run-tied key calls .tags .uses;
+        order =
+            uses-ordered key calls (referenceAfter key calls .events) (referenceAfter key calls .steps) (run-tied key calls .tags .uses)
+            (events-ordered key calls);
         faithful = faithful calls;
         strings = λ before q source content later _. enters-key key before q source content;
         stay = λ before c later _. uses-stay key before c;

@@ -198,7 +198,7 @@ unfolding outputPool
 output-is t e =
     record {
       later = empties-some t e;
-      even = divides-rest t 0 (divides-0 t e);
+      multiple = divides-rest t 0 (divides-0 t e);
       small = greatest-le (divides t) 31;
       divided = divides-rest t (greatest (divides t) 31) (greatest-passes (divides t) 31 (divides-0 t e));
       largest = λ j h z.

@@ -30,8 +30,8 @@ use Rattle.pools.proofs.Runs.{effectTo}
 use Rattle.reference.proofs.Simulation.{count-concrete}
 use Rattle.keyed.specs.declared.Keyed.{Keyed}
 use Rattle.keyed.specs.Scheduler.{inputPool, empties, outputPool, takes}
-use Rattle.keyed.specs.State.{poolAt}
-use Rattle.keyed.specs.Effects.{gained, emptiedInto, emptiedIfTaken, stepped, addEvent, served, randomDataFrom}
+use Rattle.keyed.specs.State.{poolAt, picked}
+use Rattle.keyed.specs.Effects.{gained, emptiedInto, emptiedByStep, stepped, addEvent, served, randomDataFrom}
 use Rattle.keyed_reference.specs.Reference.{Reference, consumedAt, contents, poolContents, noted, referenceEvent, referenceRequest}
 use Rattle.keyed_reference.specs.Agreement.{concrete}
 use Rattle.keyed_reference.proofs.Schedule.{input-small, output-is}
@@ -124,7 +124,7 @@ module _ (key : List ℕ) (place : ℕ) (b : Reference) (bytes : List ℕ) (s : 
       }
 
   gained-is : gained (concrete key b) bytes ≡ filled
-  unfolding gained concrete
+  unfolding gained picked concrete
   gained-is =
       λ i. record {
         generator = encode (b .generator);
@@ -191,14 +191,14 @@ module _ (key : List ℕ) (place : ℕ) (b : Reference) (bytes : List ℕ) (s : 
         step = steps-next i;
       }
 
-  emptied-is : (t : Bool) → empties (b .steps) ≡ t → stepped (emptiedIfTaken filled) ≡ stepped (cond t (emptiedInto filled out-pool) filled)
-  unfolding emptiedIfTaken
+  emptied-is : (t : Bool) → empties (b .steps) ≡ t → stepped (emptiedByStep filled) ≡ stepped (cond t (emptiedInto filled out-pool) filled)
+  unfolding emptiedByStep
   emptied-is t e = ap (λ (d : Bool). stepped (cond d (emptiedInto filled out-pool) filled)) e
 
-  next-agrees : stepped (emptiedIfTaken (gained (concrete key b) bytes)) ≡ concrete key (referenceEvent key place b bytes .next)
+  next-agrees : stepped (emptiedByStep (gained (concrete key b) bytes)) ≡ concrete key (referenceEvent key place b bytes .next)
   next-agrees =
-      ap (λ (x : Keyed). stepped (emptiedIfTaken x)) gained-is
-      ∙ by-test (empties (b .steps)) (stepped (emptiedIfTaken filled) ≡ concrete key (referenceEvent key place b bytes .next))
+      ap (λ (x : Keyed). stepped (emptiedByStep x)) gained-is
+      ∙ by-test (empties (b .steps)) (stepped (emptiedByStep filled) ≡ concrete key (referenceEvent key place b bytes .next))
       (λ e. emptied-is true e ∙ taken-next e)
       (λ e. emptied-is false e ∙ kept-next e)
 

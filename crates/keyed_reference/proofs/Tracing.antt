@@ -16,8 +16,8 @@ use Rattle.pools.proofs.Runs.{outcome-beside, from-beside}
 use Rattle.reference.specs.Provenance.{Piece, erased}
 use Rattle.keyed.specs.declared.Keyed.{Keyed}
 use Rattle.keyed.specs.Scheduler.{inputPool, empties, outputPool, takes}
-use Rattle.keyed.specs.State.{fresh}
-use Rattle.keyed.specs.Calls.{Call, event, request, update, write, inputBuffer, picked}
+use Rattle.keyed.specs.State.{fresh, picked}
+use Rattle.keyed.specs.Calls.{Call, event, request, update, write, inputBuffer}
 use Rattle.keyed.specs.Entries.{Entry, entryNumber, entryStep}
 use Rattle.keyed_reference.specs.Runs.{stateAfter}
 use Rattle.keyed_reference.specs.Reference.{Accepted, Reference, empty, pending, consumedAt, contents, noted, referenceEvent, referenceRequest, referenceEffect, referenceStep, referenceAfter, referenceEntryNumber}

@@ -9,12 +9,12 @@ use lib.Dec.{eqb}
 use borrow.Author.Tests.{eqb-true, eq-eqb}
 use Rattle.laws.specs.Lists.{select}
 use Rattle.laws.proofs.Cases.{both}
-use Rattle.laws.proofs.Selections.{mem-select, select-mem, mem-parts, parts-mem}
+use Rattle.laws.proofs.Selections.{Ordered, mem-select, select-mem, select-ordered, mem-parts, parts-mem}
 use Rattle.reference.specs.Provenance.{Piece}
 use Rattle.keyed.specs.Scheduler.{empties, outputPool, takes}
 use Rattle.keyed.specs.Entries.{Entry}
 use Rattle.keyed_reference.specs.Reference.{Accepted, scheduled, consumedAt}
-use Rattle.keyed_reference.specs.Provenance.{PoolUse, traced, pieceOf, scheduledUse, scheduledUses, EntersAt}
+use Rattle.keyed_reference.specs.Provenance.{PoolUse, traced, pieceOf, scheduledUse, scheduledUses, EntersAt, InOrder}
 use Rattle.keyed_reference.proofs.Schedule.{scheduled-takes}
 
 -- the emptying of step n
@@ -29,6 +29,11 @@ only-use es n u m = go (empties n) m
     go true h = List·Memᴰ·eq-of-singleton h
     go false h = absurd (List·Memᴰ·not-nil h)
 
+-- the specs' word for it
+in-order : (ps : List Piece) → Ordered (λ (p : Piece). p .place) ps → InOrder ps
+in-order [] o = tt
+in-order (p ∷ ps) o = (o .0, in-order ps (o .1))
+
 -- an accepted event of a place that is booked for step n, one of those below r, through pool i, and whose piece is p
 pub record Booked (es : List Accepted) (r place n i : ℕ) (p : Piece) : Type 0 where
   pub event : Accepted
@@ -40,6 +45,14 @@ pub record Booked (es : List Accepted) (r place n i : ℕ) (p : Piece) : Type 0 
   pub piece : p ≡ pieceOf event
 
 module _ (key : List ℕ) (calls : List Entry) (es : List Accepted) (r : ℕ) (uses : traced key calls .uses ≡ scheduledUses es r) where
+  -- what a step empties stands in the order of its calls
+  pub uses-ordered : Ordered (λ (e : Accepted). e .place) es → (u : PoolUse) → List·Memᴰ u (traced key calls .uses) → InOrder (u .pieces)
+  unfolding scheduledUses pieceOf
+  uses-ordered o u m =
+      let y = mem-parts (scheduledUse es) (scheduledUses es) refl (λ k. refl) r u (subst (List·Memᴰ u) uses m) in
+      subst (λ (x : PoolUse). InOrder (x .pieces)) (sym (only-use es (y .0) u (y .2)))
+      (in-order (useAt es (y .0) .pieces) (select-ordered pieceOf (λ (p : Piece). p .place) (consumedAt (y .0) (outputPool (y .0))) es o))
+
   -- what enters was booked
   pub entering-booked : (place n i : ℕ) (a : EntersAt key calls place n i) → Booked es r place n i (a .piece)
   unfolding scheduledUses consumedAt pieceOf

@@ -6,7 +6,8 @@ use mathlib.Core.Path.{_≡_}
 use mathlib.Core.Bool.{Bool, true, false}
 use mathlib.Core.List.{List, [], _∷_, _++_, map}
 use Prim.Native.Nat.{ℕ, _+_, _-_, _*_, _^_}
-use lib.ListN.{replicate, set}
+use lib.ListN.{length, replicate, set}
+use Rattle.laws.specs.Lists.{tabulate}
 use Rattle.hash.specs.Hasher.{absorb}
 use Rattle.hash.specs.ShaD.{emptyPool, poolDigest}
 use Rattle.hash.specs.declared.hasher.Hasher.{Hasher}
@@ -16,7 +17,7 @@ use Rattle.quotas.specs.declared.Quota.{Quota}
 use Rattle.quotas.specs.Entries.{within}
 use Rattle.keyed.specs.declared.Keyed.{Keyed}
 use Rattle.keyed.specs.Scheduler.{emptiedAt}
-use Rattle.keyed.specs.State.{malformed}
+use Rattle.keyed.specs.State.{fresh, malformed}
 use Rattle.keyed.specs.Refusals.{eventNumber}
 use Rattle.keyed.specs.Calls.{Call, event, request, update, write, step}
 use Rattle.keyed.specs.Entries.{taking, entryNumber, entryStep, leftBy}
@@ -68,6 +69,10 @@ sized n = record { chain = emptyPool .chain; tail = emptyPool .tail; length = n 
 
 abbrev pub withPool : ℕ → Hasher → ℕ → Keyed
 withPool i p t = stateWith (set (replicate 32 emptyPool) i p) (keyAndCount 1 9) t 0 0 false 3
+
+-- a page of 64 bytes that are not all equal
+unfoldable pub page : List ℕ
+page = 1 ∷ replicate 63 2
 
 -- an event of source 2 with the bytes 10 and 20
 unfoldable pub rowEvent : Call
@@ -122,7 +127,7 @@ ListOrderRow =
     × (map (λ (rs : List Quota). entryNumber marked (taking (within rs) rowEvent))
     ((quota 2 9 10 ∷ []) ∷ (quota 3 9 0 ∷ []) ∷ (quota 2 9 5 ∷ []) ∷ (quota 2 9 4 ∷ []) ∷ []) ≡ 37 ∷ 38 ∷ 39 ∷ 21 ∷ [])
     × (map (λ (c : Call). entryNumber marked (taking (within (quota 2 9 10 ∷ [])) c))
-    (request (replicate 1 0) ∷ update (replicate 63 1) ∷ update (replicate 64 1) ∷ update (1 ∷ replicate 63 2) ∷ write (replicate 64 1) ∷ [])
+    (request (replicate 1 0) ∷ update (replicate 63 1) ∷ update (replicate 64 1) ∷ update page ∷ write (replicate 64 1) ∷ [])
     ≡ 37 ∷ 15 ∷ 36 ∷ 37 ∷ 37 ∷ [])
 
 -- 21: nothing wrong; K without C; C without a reseed, as an update leaves it; mark, reseed number, flag not 0; requests without C
@@ -145,11 +150,45 @@ PoolClausesRow =
     ∷ withPool 31 (record { chain = replicate 8 0; tail = replicate 64 0; length = 64 }) 5 ∷ [])
     ≡ false ∷ true ∷ true ∷ true ∷ false ∷ []
 
+-- each of the 32 pools is looked at, and each byte of K
+abbrev pub EachRow : Type 0
+EachRow =
+    (tabulate (λ (i : ℕ). malformed (withPool i (sized (2 ^ 61 - 64)) 5)) 32 ≡ replicate 32 true)
+    × (tabulate (λ (i : ℕ).
+    malformed (stateWith (replicate 32 emptyPool) (record { key = set (replicate 32 0) i 1; count = 0 }) 5 0 0 false 0)) 32
+    ≡ replicate 32 true)
+
 -- every call is refused by 21
 abbrev pub EveryCallRow : Type 0
 EveryCallRow =
-    map (λ (c : Call). step marked c .number) (rowEvent ∷ request [] ∷ update (1 ∷ replicate 63 2) ∷ write (replicate 64 1) ∷ [])
+    map (λ (c : Call). step marked c .number) (rowEvent ∷ request [] ∷ update page ∷ write (replicate 64 1) ∷ [])
     ≡ 21 ∷ 21 ∷ 21 ∷ 21 ∷ []
+
+-- no key yet: requests and writes are refused by 23, an update is taken
+abbrev pub UnseededRow : Type 0
+UnseededRow =
+    map (λ (c : Call). step (fresh rowKey) c .number) (request [] ∷ request (1 ∷ []) ∷ write page ∷ update page ∷ []) ≡ 23 ∷ 23 ∷ 23 ∷ 0 ∷ []
+
+-- 24 of requests and seed calls with nothing due, also at a step that empties: blocks and two more, an update seven
+abbrev pub SpentCallsRow : Type 0
+SpentCallsRow =
+    step (atStep 32 (2 ^ 128 - 3)) (request []) .number ∷ step (atStep 32 (2 ^ 128 - 2)) (request []) .number
+    ∷ step (atStep 32 (2 ^ 128 - 7)) (write page) .number ∷ step (atStep 32 (2 ^ 128 - 6)) (write page) .number
+    ∷ step (atStep 32 (2 ^ 128 - 8)) (update page) .number ∷ step (atStep 32 (2 ^ 128 - 7)) (update page) .number ∷ []
+    ≡ 0 ∷ 24 ∷ 0 ∷ 24 ∷ 0 ∷ 24 ∷ []
+
+-- 22 before 45, by the pool that the last step picks, which is pool 17
+abbrev pub FullLastRow : Type 0
+FullLastRow =
+    map (λ (s : Keyed). step s rowEvent .number)
+    (withPool 17 (sized (2 ^ 61 - 69)) (2 ^ 64 - 1) ∷ withPool 16 (sized (2 ^ 61 - 69)) (2 ^ 64 - 1) ∷ [])
+    ≡ 22 ∷ 45 ∷ []
+
+-- a request above 1,048,576 bytes is refused by 14 in every state, also with a list that 37 refuses
+abbrev pub LongRow : Type 0
+LongRow =
+    ((s : Keyed) (out : List ℕ) → length out ≡ 1048577 → step s (request out) .number ≡ 14)
+    × ((s : Keyed) (rs : List Quota) (out : List ℕ) → length out ≡ 1048577 → entryNumber s (taking (within rs) (request out)) ≡ 14)
 
 -- ---- what an event leaves
 
@@ -203,6 +242,19 @@ OwnRow =
       };
     }
 
+-- the event's bytes go behind what its pool holds, and D of all of it enters
+abbrev pub StringRow : Type 0
+StringRow =
+    step (withPool 0 (sized (2 ^ 61 - 70)) 352) rowEvent .effect .next .generator
+    ≡ encode (reseed (keyAndCount 1 9) (poolDigest (absorb (sized (2 ^ 61 - 70)) (eventBytes 2 (10 ∷ 20 ∷ [])))))
+
+-- at step 64 pool 1 alone is emptied, and pool 10 gains the event
+abbrev pub OnlyRow : Type 0
+OnlyRow =
+    let first = set (replicate 32 emptyPool) 0 (sized 64) in
+    step (stateWith (set first 1 (sized 128)) (keyAndCount 1 9) 64 0 0 false 65535) rowEvent .effect .next
+    ≡ stateWith (set first 10 eventPool) (reseed (keyAndCount 1 9) (poolDigest (sized 128))) 65 0 0 false 0
+
 -- step 2^64 - 2 is made, and the state is then at 2^64 - 1; there an event leaves everything as it was
 abbrev pub LastRow : Type 0
 LastRow =
@@ -226,6 +278,13 @@ RequestRow =
       };
     }
 
+-- the requests on the key stop at 65,535
+abbrev pub CountRow : Type 0
+CountRow =
+    map (λ (n : ℕ). step (stateWith (replicate 32 emptyPool) (keyAndCount 1 9) 33 0 0 false n) (request []) .effect .next .«key_requests»)
+    (0 ∷ 65534 ∷ 65535 ∷ [])
+    ≡ 1 ∷ 65535 ∷ 65535 ∷ []
+
 -- spent: charged at step 33, all 0 at step 32, the event's own too
 abbrev pub SpentRow : Type 0
 SpentRow =
@@ -244,10 +303,18 @@ pub record Boundaries : Type 0 where
   pub lists : ListOrderRow
   pub clauses : ClausesRow
   pub poolClauses : PoolClausesRow
+  pub each : EachRow
   pub everyCall : EveryCallRow
+  pub unseeded : UnseededRow
+  pub spentCalls : SpentCallsRow
+  pub fullLast : FullLastRow
+  pub long : LongRow
   pub gain : GainRow
   pub empty : EmptyRow
   pub own : OwnRow
+  pub string : StringRow
+  pub only : OnlyRow
   pub last : LastRow
   pub request : RequestRow
+  pub count : CountRow
   pub spent : SpentRow

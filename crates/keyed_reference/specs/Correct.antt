@@ -4,11 +4,15 @@
 use mathlib.Core.List.{List}
 use Prim.Native.Nat.{ℕ}
 use Rattle.generator.specs.Statements.{NoRepeat}
+use Rattle.quotas.specs.Entries.{Quotas}
+use Rattle.keyed.specs.declared.Keyed.{Keyed}
+use Rattle.keyed.specs.Calls.{Call}
 use Rattle.keyed.specs.Entries.{Entry}
 use Rattle.keyed_reference.specs.Agreement.{RunIsSteps, Agrees}
 use Rattle.keyed_reference.specs.Schedule.{InputLaw, OutputLaw, ScheduleLaw, EmptiedLaw, StepsMade}
 use Rattle.keyed_reference.specs.Provenance.{Provenance}
 use Rattle.keyed_reference.specs.Counters.{counterBlocks, Counted, OnOneKey}
+use Rattle.keyed_reference.specs.Served.{ServedLaw, RefusedLaw, ListTold, TimerLaw}
 
 pub record KeyedRunCorrect (key : List ℕ) (calls : List Entry) : Type 0 where
   -- the run is its calls' steps, one after the other
@@ -27,5 +31,11 @@ pub record KeyedRunCorrect (key : List ℕ) (calls : List Entry) : Type 0 where
   -- demand 3's last sentence: no counter block is enciphered twice; and none is left out
   pub counters : NoRepeat (counterBlocks key calls)
   pub counted : Counted key calls
+  -- a request and a seed call are served from K and C alone, a refused call leaves state and lent buffer, and the lists compared are those left
+  pub served : (s : Keyed) (q : Quotas) → ServedLaw s q
+  pub refused : (s : Keyed) (q : Quotas) → RefusedLaw s q
+  pub told : (s : Keyed) (c : Call) → ListTold s c
+  -- mark, flag and reseed number not at 0: 21
+  pub timer : TimerLaw
   -- the number in the state is how many requests were made on the key, up to 65,535
   pub key-requests : OnOneKey key calls

@@ -45,7 +45,8 @@ pub record LeftLaw (s : Keyed) (rs : List Quota) : Type 0 where
   -- a list that 37 does not refuse is returned as such a list
   pub formed : (c : Call) → malformedQuotas rs ≡ false → malformedQuotas (leftBy s rs c) ≡ false
 
--- the numbers that a call's check gives: 0, and those that refuse it, in the order of the check; 12 is not among them
+-- the numbers that a call's check can give: 0, and those that refuse it, listed in the order of the check, which OrderRow and ListOrderRow say;
+-- 12 is not among them
 unfoldable pub entryNumbers : Quotas → Call → List ℕ
 entryNumbers without (event source content) = 0 ∷ 11 ∷ 13 ∷ 21 ∷ 22 ∷ 45 ∷ 24 ∷ []
 entryNumbers without (request buffer) = 0 ∷ 14 ∷ 21 ∷ 23 ∷ 24 ∷ []

@@ -6,6 +6,7 @@ pub mod Schedule
 pub mod Provenance
 pub mod Counters
 pub mod Left
+pub mod Served
 pub mod Correct
 pub mod Picks
 pub mod Boundaries

@@ -14,6 +14,7 @@ rowKey = tabulate (λ (i : ℕ). i) 32
 pub record Picks : Type 0 where
   pub at-32 : inputPool rowKey 32 ≡ 27
   pub at-33 : inputPool rowKey 33 ≡ 23
+  pub at-64 : inputPool rowKey 64 ≡ 10
   pub at-256 : inputPool rowKey 256 ≡ 5
   pub at-352 : inputPool rowKey 352 ≡ 0
   pub last-but-one : inputPool rowKey (2 ^ 64 - 2) ≡ 0

@@ -17,8 +17,8 @@ use Rattle.quotas.specs.Entries.{Quotas}
 use Rattle.reference.specs.Provenance.{Piece, erased}
 use Rattle.keyed.specs.declared.Keyed.{Keyed}
 use Rattle.keyed.specs.Scheduler.{inputPool, empties, outputPool, takes}
-use Rattle.keyed.specs.State.{fresh, poolAt}
-use Rattle.keyed.specs.Calls.{Call, event, request, update, write, picked}
+use Rattle.keyed.specs.State.{fresh, poolAt, picked}
+use Rattle.keyed.specs.Calls.{Call, event, request, update, write}
 use Rattle.keyed.specs.Entries.{Entry, taking, entryNumber, entryStep}
 use Rattle.keyed_reference.specs.Runs.{stateAfter}
 use Rattle.keyed_reference.specs.Reference.{Accepted, consumedAt, scheduledStep, referenceAfter}
@@ -104,7 +104,7 @@ pub record EntersKey (key : List ℕ) (calls : List Entry) (q : Quotas) (source 
       entryStep (stateAfter key calls) (taking q (event source content)) .effect .next .generator
       ≡ encode (reseedWith (decode (stateAfter key calls .generator)) (emptiesNow key calls (eventBytes source content)))
 
--- a call that is no event never enters, and leaves the uses
+-- a call that is no event puts nothing into a pool and leaves the uses; that no pool enters K with it says ServedLaw
 abbrev pub NoEvent : Entry → Type 0
 NoEvent c = (source : ℕ) (content : List ℕ) → c .call ≡ event source content → ⊥
 
@@ -164,10 +164,16 @@ pub record EventEnters (key : List ℕ) (before : List Entry) (q : Quotas) (sour
 abbrev pub OthersNever : List ℕ → List Entry → Entry → List Entry → Type 0
 OthersNever key before c later = NoEvent c → (n i : ℕ) → EntersAt key (before ++ (c ∷ later)) (length before) n i → ⊥
 
+-- each piece's call stands before those of the pieces after it: in arrival order, each once
+abbrev pub InOrder : List Piece → Type 0
+InOrder [] = Unit {0}
+InOrder (p ∷ ps) = ((r : Piece) → List·Memᴰ r ps → p .place < r .place) × InOrder ps
+
 -- ---- the claim about a list of calls
 pub record Provenance (key : List ℕ) (calls : List Entry) : Type 0 where
   -- what each step empties is what was booked for it, in arrival order
   pub uses : traced key calls .uses ≡ scheduledUses (referenceAfter key calls .events) (referenceAfter key calls .steps)
+  pub order : (u : PoolUse) → List·Memᴰ u (traced key calls .uses) → InOrder (u .pieces)
   pub faithful : Faithful key calls
   -- each call of the list, by where it stands
   pub strings :

@@ -3,7 +3,8 @@
 -- check it by itself (docs/PROOFS.md, 'What model and station share'): the scheduler (`inputPool`, `empties`, `outputPool`); the refusal chains
 -- over plain values, with `seedSize`; `eventBytes`; `D`, and the generator's `initial` and `reseed`; and what a call and a run are, `inputNumber`,
 -- `andThen`, `inputBuffer`, `outcome`, `runFrom`, `stateFrom`. The generator's request it takes in closed form, and a list of quotas record by
--- record (ReferenceLists.antt).
+-- record (ReferenceLists.antt). What it compares goes by `concrete` (`poolOf`, `encode`, `poolCount`, `maxKeyRequests`) and `leftWith`. The
+-- clauses of 21 it never reads.
 -- Assumes nothing.
 use mathlib.Core.Bool.{Bool, true, false, cond, _&&_}
 use mathlib.Core.List.{List, [], _∷_, _++_}
@@ -45,7 +46,7 @@ empty = record { generator = initial; steps = 0; events = []; keyRequests = 0 }
 -- ---- the schedule
 
 -- the step that an event of pool i at step t is booked for: below 31 the first odd multiple of 32 × 2^i from t on, of pool 31 the first
--- multiple above 0
+-- multiple above 0 from t on
 unfoldable pub scheduledStep : ℕ → ℕ → ℕ
 scheduledStep i t =
     cond (ltb i 31)

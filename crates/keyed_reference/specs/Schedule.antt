@@ -9,7 +9,6 @@ use lib.ListN.{length, getD}
 use Rattle.cipher.specs.Aes.{cipher}
 use Rattle.pools.specs.Calls.{Outcome}
 use Rattle.keyed.specs.declared.Keyed.{Keyed}
-use Rattle.keyed.specs.Refusals.{maxStep}
 use Rattle.keyed.specs.Entries.{Entry, entryNumber, entryStep}
 use Rattle.keyed.specs.Scheduler.{stepBlock, inputPool, empties, outputPool, takes}
 use Rattle.keyed_reference.specs.Runs.{run, stateAfter, tally, isEvent}
@@ -29,7 +28,7 @@ InputLaw = (key : List ℕ) (t : ℕ) → InputIs key t
 -- a step that empties a pool: t is above 0 and 32 divides it; the pool is the largest i up to 31 with 32 × 2^i dividing t
 pub record OutputIs (t : ℕ) : Type 0 where
   pub later : 0 < t
-  pub even : t % 32 ≡ 0
+  pub multiple : t % 32 ≡ 0
   pub small : outputPool t ≤ 31
   pub divided : t % (32 * 2 ^ outputPool t) ≡ 0
   pub largest : (j : ℕ) → j ≤ 31 → t % (32 * 2 ^ j) ≡ 0 → j ≤ outputPool t
@@ -61,4 +60,4 @@ acceptedEvents calls os = tally (λ c o. cond (isEvent (c .call) && eqb (o .numb
 -- the step number is the count of accepted events, and within its 64 bits: no other call moves it, nor does a refused event
 pub record StepsMade (key : List ℕ) (calls : List Entry) : Type 0 where
   pub counts : stateAfter key calls .step ≡ acceptedEvents calls (run key calls)
-  pub within : stateAfter key calls .step ≤ maxStep
+  pub within : stateAfter key calls .step < 2 ^ 64

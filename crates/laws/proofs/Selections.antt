@@ -46,6 +46,19 @@ module _ {A : Type 0} where
       grown true m r q = ap {B = List A} (λ k. y ∷ k) q
       grown false m r q = q
 
+-- ---- in the order of a number that each element has
+
+module _ {A : Type 0} (number : A → ℕ) where
+  -- each element's number is below those of all later ones
+  abbrev pub Ordered : List A → Type 0
+  Ordered [] = Unit {0}
+  Ordered (x ∷ l) = Every (λ y. number x < number y) l × Ordered l
+
+  pub ordered-append : (l : List A) (y : A) → Ordered l → Every (λ x. number x < number y) l → Ordered (l ++ (y ∷ []))
+  ordered-append [] y o h = (every-none _, tt)
+  ordered-append (x ∷ l) y o h =
+      (every-append (λ z. number x < number z) l y (o .0) (h x (List·Memᴰ·head refl)), ordered-append l y (o .1) (λ z m. h z (List·Memᴰ·tail m)))
+
 module _ {A B : Type 0} (f : A → B) where
   -- an element that passes the test, and what f makes of it
   pub record Selected (t : A → Bool) (l : List A) (y : B) : Type 0 where
@@ -81,6 +94,22 @@ module _ {A B : Type 0} (f : A → B) where
       here : (b : Bool) → List·Memᴰ (f x) (map f (select t l)) → List·Memᴰ (f x) (map f (cond b (y ∷ select t l) (select t l)))
       here true n = List·Memᴰ·tail n
       here false n = n
+
+  -- what is selected of an ordered list is ordered
+  pub select-ordered :
+      (number : B → ℕ) (t : A → Bool) (l : List A) → Ordered (λ (x : A). number (f x)) l → Ordered number (map f (select t l))
+  unfolding select
+  select-ordered number t [] o = tt
+  select-ordered number t (x ∷ l) o = go (select-ordered number t l (o .1)) (t x)
+    where
+      later : Every (λ y. number (f x) < number y) (map f (select t l))
+      later y m =
+          let r = mem-select t l y m in
+          subst (λ z. number (f x) < number z) (sym (r .is)) (o .0 (r .element) (r .listed))
+
+      go : Ordered number (map f (select t l)) → (b : Bool) → Ordered number (map f (cond b (x ∷ select t l) (select t l)))
+      go r true = (later, r)
+      go r false = r
 
 -- ---- in a joined list
 

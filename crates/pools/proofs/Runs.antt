@@ -11,7 +11,7 @@ use lib.ListN.{length}
 use borrow.Author.Tests.{eqb-true}
 use Rattle.laws.specs.Refusals.{guarded}
 use Rattle.laws.proofs.Cases.{cond-cong}
-use Rattle.laws.proofs.Selections.{Every, every-none, every-append}
+use Rattle.laws.proofs.Selections.{Every, every-none, every-append, Ordered, ordered-append}
 use Rattle.pools.specs.Refusals.{andThen}
 use Rattle.pools.specs.Effects.{Effect, unchanged}
 use Rattle.pools.specs.Calls.{Outcome, effectOf, outcome, runFrom, stateFrom}
@@ -205,6 +205,20 @@ module _ {C S A : Type 0} (f : ℕ → S → C → Outcome S) (noted : S → Lis
             (λ x o. every-append (λ x. placeOf x < suc place) (noted s) x below (omega arith))) e m,
       )
 
+  -- the places rise along the list
+  run-ordered :
+      (calls : List C) (place : ℕ) (s : S) → Ordered placeOf (noted s) → Every (λ e. placeOf e < place) (noted s) →
+      Ordered placeOf (noted (stateFrom f place s calls))
+  unfolding stateFrom
+  run-ordered [] place s o h = o
+  run-ordered (c ∷ calls) place s o h =
+      let below : Every (λ x. placeOf x < suc place) (noted s) = λ x n. omega (arith, h x n) in
+      let both : Ordered placeOf (noted (f place s c .effect .next)) × Every (λ x. placeOf x < suc place) (noted (f place s c .effect .next)) =
+      step-keeps (λ (l : List A). Ordered placeOf l × Every (λ x. placeOf x < suc place) l) place s c (o, below)
+      (λ e q.
+      (ordered-append placeOf (noted s) e o (λ x n. omega (arith, h x n)), every-append (λ x. placeOf x < suc place) (noted s) e below (omega arith))) in
+      run-ordered calls (suc place) (f place s c .effect .next) (both .0) (both .1)
+
   -- from a state with none
   module _ (start : S) (none : noted start ≡ []) where
     abbrev after : List C → S
@@ -213,6 +227,10 @@ module _ {C S A : Type 0} (f : ℕ → S → C → Outcome S) (noted : S → Lis
     pub after-below : (calls : List C) → Every (λ e. placeOf e < length calls) (noted (after calls))
     after-below calls e m =
         omega (arith, run-below calls 0 start (subst (Every (λ e. placeOf e < 0)) (sym none) (every-none (λ e. placeOf e < 0))) e m)
+
+    pub after-ordered : (calls : List C) → Ordered placeOf (noted (after calls))
+    after-ordered calls =
+        run-ordered calls 0 start (subst (Ordered placeOf) (sym none) tt) (subst (Every (λ e. placeOf e < 0)) (sym none) (every-none (λ e. placeOf e < 0)))
 
     module _ (before : List C) (c : C) (later : List C) where
       -- the state that the call c leaves

@@ -2,8 +2,8 @@
 -- Assumes nothing.
 use mathlib.Core.List.{[]}
 use Rattle.pools.specs.Collected.{nth}
-use Rattle.keyed.specs.State.{poolAt}
-use Rattle.keyed.specs.Calls.{event, picked}
+use Rattle.keyed.specs.State.{poolAt, picked}
+use Rattle.keyed.specs.Calls.{event}
 use Rattle.keyed.proofs.Outcomes.{is-accepted, gives-done, gives-kept}
 use Rattle.keyed.proofs.Events.{input-small, event-number, event-effect}
 use borrow.Author.Needs.{needs}

@@ -1,7 +1,5 @@
 -- `keyed::scheduler::emptied_at` meets its contract.
 -- Assumes nothing.
-use mathlib.Core.Path.{_∙_}
-use native.Mathlib.Omega.{arith}
 use Rattle.pools.specs.Events.{poolCount}
 use Rattle.keyed.specs.Scheduler.{emptiedAt}
 use Rattle.keyed.proofs.Periods.{output-small}

@@ -4,7 +4,6 @@ use Prim.Native.Nat.{_<_}
 use native.Mathlib.Omega.{arith}
 use borrow.Author.Tests.{lt-ltb}
 use Rattle.keyed.specs.Scheduler.{empties}
-use borrow.Author.Needs.{needs}
 use Rattle.keyed.proofs.scheduler.empties.Statement.{statement}
 use Rattle.keyed.proofs.scheduler.empties.Tie as tie
 
