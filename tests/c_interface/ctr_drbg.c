@@ -14,17 +14,9 @@
 #define _POSIX_C_SOURCE 200809L
 #include "fortuna.h"
 #include "lent.h"
+#include "words.h"
 
-#include <errno.h>
-#include <inttypes.h>
-
-enum {
-    KEY = 32,
-    V = 16,
-    DIGEST = 32,
-    MOST_SHOWN = 128,     /* bytes of an answer; of more the digest is printed */
-    MOST_BYTES = 1 << 24, /* of a buffer, so that a slip in a length takes no gigabytes */
-};
+enum { KEY = 32, V = 16 };
 
 /* The layout that kept states count on, and the numbers of 02 by their names. */
 _Static_assert(sizeof(fortuna_ctr_drbg) == 56, "the state's size");
@@ -34,79 +26,6 @@ _Static_assert(FORTUNA_ENTROPY_LENGTH == 40, "entropy input that is not 48 bytes
 _Static_assert(FORTUNA_INPUT_TOO_LONG == 41, "other input above 48 bytes");
 _Static_assert(FORTUNA_REQUEST_TOO_LONG == 14, "a request above 65,536 bytes");
 _Static_assert(FORTUNA_SEEDING_NEEDED == 42, "never seeded, or 2^48 requests since");
-
-/* ---- the words of a line */
-
-static char *word(char **rest)
-{
-    char *found = *rest;
-    size_t length = strcspn(found, " ");
-    if (length == 0)
-        stop("a word that is missing");
-    *rest += length + (found[length] != '\0');
-    found[length] = '\0';
-    return found;
-}
-
-static void no_more(const char *rest)
-{
-    if (*rest)
-        stop("a word too many");
-}
-
-static uint64_t number(const char *digits, uint64_t most)
-{
-    char *end;
-    errno = 0;
-    uint64_t n = strtoull(digits, &end, 10);
-    if (*digits < '0' || *digits > '9' || *end || errno || n > most)
-        stop("a word that is no number, or one too large");
-    return n;
-}
-
-/* Bytes of a word: lent, with a copy by which a call that changes them is found out. */
-typedef struct {
-    uint8_t *lent, *kept;
-    size_t length;
-} input;
-
-static input lend_input(char *text)
-{
-    char *times = strchr(text, '*');
-    if (times)
-        *times++ = '\0';
-    size_t digits = strcmp(text, "-") == 0 ? 0 : strlen(text);
-    if (digits % 2 != 0 || (times && digits != 2))
-        stop("bytes with a digit too few or too many");
-    size_t length = times ? (size_t)number(times, MOST_BYTES) : digits / 2;
-    input in = {lend(length), lend(length), length};
-    if (times) {
-        uint8_t byte;
-        decode(text, digits, &byte);
-        memset(in.lent, byte, length);
-    } else {
-        decode(text, digits, in.lent);
-    }
-    memcpy(in.kept, in.lent, length);
-    return in;
-}
-
-static void give_back_input(input in)
-{
-    if (memcmp(in.lent, in.kept, in.length) != 0)
-        stop("a call changed an input");
-    give_back(in.lent, in.length);
-    give_back(in.kept, in.length);
-}
-
-static void take_bytes(char *text, uint8_t *bytes, size_t length)
-{
-    input in = lend_input(text);
-    if (in.length != length)
-        stop("a Key or a V of another length");
-    memcpy(bytes, in.lent, length);
-    give_back_input(in);
-}
 
 /* ---- the state: each call is lent a copy of it, so that writing beside it is found out */
 
@@ -152,48 +71,20 @@ static void seed(seeding *call, char *rest)
     give_back_input(other);
 }
 
-/* A buffer with bytes in it that go on changing. */
-static uint8_t *lend_buffer(size_t length)
-{
-    uint8_t *bytes = lend(length);
-    for (size_t i = 0; i < length; i++)
-        bytes[i] = (uint8_t)(7 * i + i / 256 + 1);
-    return bytes;
-}
-
-static void print_given(const uint8_t *bytes, size_t length)
-{
-    uint8_t digest[DIGEST];
-    if (length == 0) {
-        printf("- ");
-        return;
-    }
-    if (length > MOST_SHOWN) {
-        if (fortuna_sha256(bytes, length, digest) != FORTUNA_DONE)
-            stop("fortuna_sha256 was refused");
-        printf("sha256:");
-        bytes = digest;
-        length = DIGEST;
-    }
-    print_bytes(bytes, length);
-    putchar(' ');
-}
-
 static void generate(char *rest)
 {
     size_t length = (size_t)number(word(&rest), MOST_BYTES);
     input additional = lend_input(word(&rest));
     no_more(rest);
-    uint8_t *out = lend_buffer(length), *before = lend_buffer(length);
+    input out = lend_buffer(length);
     fortuna_ctr_drbg *lent = lend_state();
-    uint32_t answer = fortuna_ctr_drbg_generate(lent, out, length, additional.lent, additional.length);
-    if (answer != FORTUNA_DONE && memcmp(out, before, length) != 0)
+    uint32_t answer = fortuna_ctr_drbg_generate(lent, out.lent, length, additional.lent, additional.length);
+    if (answer != FORTUNA_DONE && !is_kept(out))
         stop("a refused call wrote bytes");
     take_state(lent, answer);
-    print_given(out, answer == FORTUNA_DONE ? length : 0);
+    print_given(out.lent, answer == FORTUNA_DONE ? length : 0);
     give_back_input(additional);
-    give_back(out, length);
-    give_back(before, length);
+    drop_input(out);
 }
 
 /* ---- the lines */

@@ -5,45 +5,11 @@
 #include "fortuna.h"
 #include "lent.h"
 #include "quotas.h"
-
-#include <errno.h>
-#include <inttypes.h>
+#include "words.h"
 
 enum { SEED_SIZE = 64 };
 
 /* ---- the words of a line */
-
-/* The part before the separator, or all that is left. */
-static char *part(char **rest, const char *separator)
-{
-    char *found = *rest;
-    size_t length = strcspn(found, separator);
-    if (length == 0)
-        stop("a word that is missing");
-    *rest += length + (found[length] != '\0');
-    found[length] = '\0';
-    return found;
-}
-
-static char *word(char **rest)
-{
-    return part(rest, " ");
-}
-
-static uint64_t number(const char *digits, uint64_t most)
-{
-    char *end;
-    errno = 0;
-    uint64_t n = strtoull(digits, &end, 10);
-    if (*digits < '0' || *digits > '9' || *end || errno || n > most)
-        stop("a word that is no number, or one too large");
-    return n;
-}
-
-static uint32_t part_number(char **rest, const char *separator)
-{
-    return (uint32_t)number(part(rest, separator), UINT32_MAX);
-}
 
 static uint32_t word_number(char **rest)
 {
@@ -63,19 +29,6 @@ static uint8_t *lend_bytes(const char *digits)
     return bytes;
 }
 
-/* How many entries the list has. */
-static size_t entries_in(const char *list)
-{
-    if (strcmp(list, "-") == 0)
-        return 0;
-    size_t count = 1;
-    while ((list = strchr(list, ',')) != NULL) {
-        list++;
-        count++;
-    }
-    return count;
-}
-
 static uint16_t *lend_list(char *list)
 {
     size_t length = entries_in(list);
@@ -83,17 +36,6 @@ static uint16_t *lend_list(char *list)
     for (size_t i = 0; i < length; i++)
         numbers[i] = (uint16_t)number(part(&list, ","), UINT16_MAX);
     return numbers;
-}
-
-static quota_list lend_records(char *words)
-{
-    quota_list list = lend_quotas(entries_in(words));
-    for (size_t i = 0; i < list.count; i++) {
-        uint32_t source = part_number(&words, ":");
-        uint32_t allowance = part_number(&words, ":");
-        list.records[i] = (fortuna_quota){source, allowance, part_number(&words, ",")};
-    }
-    return list;
 }
 
 /* ---- the run: a state, the list of quotas that is held, and for the call that is made that list, or none */
@@ -107,15 +49,9 @@ typedef struct {
 /* Prints the list that a call left. It goes on in a new buffer, so that the one that was lent can be looked at. */
 static void leave_list(run *r)
 {
-    quota_list left = lend_quotas(r->held.count);
-    printf(left.count > 0 ? " " : " -");
-    for (size_t i = 0; i < left.count; i++) {
-        left.records[i] = r->held.records[i];
-        printf("%s%" PRIu32 ":%" PRIu32 ":%" PRIu32, i > 0 ? "," : "", left.records[i].source,
-            left.records[i].allowance, left.records[i].spent);
-    }
-    give_back_quotas(r->held);
-    r->held = left;
+    putchar(' ');
+    print_records(r->held);
+    r->held = passed_on(r->held);
 }
 
 /* ---- the calls */
