@@ -34,8 +34,9 @@ _Static_assert(offsetof(fortuna_keyed, step) == 3424, "where the step number sta
 _Static_assert(FORTUNA_STEPS_SPENT == 45, "no step is left");
 
 /* The chain of an empty pool, as fortuna.h has it. */
-static const uint32_t EMPTY[CHAIN] = {0xda5698be, 0x17b9b469, 0x62335799, 0x779fbeca, 0x8ce5d491, 0xc0d26243, 0xbafef9ea,
-                                      0x1837a9d8};
+static const uint32_t EMPTY[CHAIN] = {
+    0xda5698be, 0x17b9b469, 0x62335799, 0x779fbeca, 0x8ce5d491, 0xc0d26243, 0xbafef9ea, 0x1837a9d8,
+};
 
 /* ---- fields that are bytes or a number */
 
@@ -218,22 +219,16 @@ static void event(run *r, char *rest)
     input data = lend_input(word(&rest));
     no_more(rest);
     fortuna_keyed *lent = lend_state(r);
-    const quota_list *l = r->taken;
-    take_state(r, lent,
-        l ? fortuna_keyed_metered_event(lent, l->records, l->count, source, data.lent, data.length)
-          : fortuna_keyed_event(lent, source, data.lent, data.length));
+    take_state(r, lent, keyed_event_with(lent, r->taken, source, data.lent, data.length));
     give_back_input(data);
 }
 
-typedef fortuna_answer plain_call(fortuna_keyed *, uint8_t *, size_t);
-typedef fortuna_answer metered_call(fortuna_keyed *, fortuna_quota *, size_t, uint8_t *, size_t);
+typedef fortuna_answer filling(fortuna_keyed *, const quota_list *, uint8_t *, size_t);
 
-static void fill(run *r, plain_call *plain, metered_call *with_list, input buffer)
+static void fill(run *r, filling *call, input buffer)
 {
     fortuna_keyed *lent = lend_state(r);
-    const quota_list *l = r->taken;
-    fortuna_answer a = l ? with_list(lent, l->records, l->count, buffer.lent, buffer.length)
-                         : plain(lent, buffer.lent, buffer.length);
+    fortuna_answer a = call(lent, r->taken, buffer.lent, buffer.length);
     take_state(r, lent, a);
     if (a.number != FORTUNA_DONE && !is_kept(buffer))
         stop("a refused call wrote bytes");
@@ -246,21 +241,21 @@ static void request(run *r, char *rest)
 {
     size_t length = (size_t)number(word(&rest), MOST_BYTES);
     no_more(rest);
-    fill(r, fortuna_keyed_request, fortuna_keyed_metered_request, lend_buffer(length));
+    fill(r, keyed_request_with, lend_buffer(length));
 }
 
 static void update(run *r, char *rest)
 {
     input seed = lend_input(word(&rest));
     no_more(rest);
-    fill(r, fortuna_keyed_update, fortuna_keyed_metered_update, seed);
+    fill(r, keyed_update_with, seed);
 }
 
 static void write_seed(run *r, char *rest)
 {
     input seed = lend_input(word(&rest));
     no_more(rest);
-    fill(r, fortuna_keyed_write, fortuna_keyed_metered_write, seed);
+    fill(r, keyed_write_with, seed);
 }
 
 static const struct {

@@ -1,4 +1,5 @@
-/* The six calls, each with a list of quotas (02, x) or without one, for programs that make calls as they are told. */
+/* The six calls, and the four of the keyed scheduler, each with a list of quotas (02, x) or without one, for programs
+   that make calls as they are told. */
 #ifndef QUOTAS_H
 #define QUOTAS_H
 
@@ -61,6 +62,34 @@ static inline fortuna_answer shuffle_with(
 {
     return list ? fortuna_metered_shuffle(state, list->records, list->count, clock, numbers, length)
                 : fortuna_shuffle(state, clock, numbers, length);
+}
+
+static inline fortuna_answer keyed_event_with(
+    fortuna_keyed *state, const quota_list *list, uint32_t source, const uint8_t *data, size_t length)
+{
+    return list ? fortuna_keyed_metered_event(state, list->records, list->count, source, data, length)
+                : fortuna_keyed_event(state, source, data, length);
+}
+
+static inline fortuna_answer keyed_request_with(
+    fortuna_keyed *state, const quota_list *list, uint8_t *out, size_t length)
+{
+    return list ? fortuna_keyed_metered_request(state, list->records, list->count, out, length)
+                : fortuna_keyed_request(state, out, length);
+}
+
+static inline fortuna_answer keyed_update_with(
+    fortuna_keyed *state, const quota_list *list, uint8_t *seed, size_t length)
+{
+    return list ? fortuna_keyed_metered_update(state, list->records, list->count, seed, length)
+                : fortuna_keyed_update(state, seed, length);
+}
+
+static inline fortuna_answer keyed_write_with(
+    fortuna_keyed *state, const quota_list *list, uint8_t *seed, size_t length)
+{
+    return list ? fortuna_keyed_metered_write(state, list->records, list->count, seed, length)
+                : fortuna_keyed_write(state, seed, length);
 }
 
 #endif

@@ -9,9 +9,10 @@ the bytes lent as they are left, the next state and the list left. AES-256 is te
 generator are tests/independent/generator.py's."""
 import hashlib
 from collections import namedtuple
+from functools import lru_cache
 
+import aes256
 import generator
-from aes256 import encrypt
 from sha256 import INITIAL, compress, finish
 
 Running = namedtuple("Running", "chain tail length")  # a pool as the station has it
@@ -30,6 +31,10 @@ MAX_REQUESTS = 65535  # where the state's number of requests on the key stops
 MAX_QUOTAS = 64
 SEED = 64
 
+# Tests look at a state and a step many times, so that blocks, running hashes and clauses are kept for a while.
+kept = lru_cache(maxsize=2**14)
+encrypt = kept(aes256.encrypt)
+
 FRONT = Running(tuple(compress(INITIAL, bytes(64))), bytes(64), 0)  # after the block of zeros that D has in front
 EMPTY = Pool(FRONT, b"")
 
@@ -41,6 +46,7 @@ def length(pool):
     return pool.start.length + len(pool.string)
 
 
+@kept
 def running(pool):
     chain, tail, before = pool.start
     if not pool.string:
@@ -90,8 +96,9 @@ CLAUSES = {
 }
 
 
+@kept
 def clauses(state):
-    return [name for name, holds in CLAUSES.items() if holds(state)]
+    return tuple(name for name, holds in CLAUSES.items() if holds(state))
 
 
 class Keyed:
@@ -105,6 +112,9 @@ class Keyed:
     def input_pool(self, key, t):
         """The pool that the event at step t goes to."""
         return encrypt(key, self.block(t))[0] % POOLS
+
+    def picked(self, state):
+        return self.input_pool(state.scheduler_key, state.step)
 
     def output_pool(self, t):
         """The pool that step t empties; None where it empties none."""
@@ -144,7 +154,6 @@ class Keyed:
 
     def event_numbers(self, state, quotas, source, data):
         t = state.step
-        picked = state.pools[self.input_pool(state.scheduler_key, t)]
         return {
             11: source > MAX_SOURCE,
             13: not 1 <= len(data) <= MAX_DATA,
@@ -152,7 +161,7 @@ class Keyed:
             38: quotas is not None and self.unlisted(quotas, source),
             39: quotas is not None and self.over_allowance(quotas, source, data),
             21: self.malformed(state),
-            22: self.full(picked, data),
+            22: self.full(state.pools[self.picked(state)], data),
             45: self.steps_spent(t),
             24: self.output_pool(t) is not None and self.counter_spent(state, 1),
         }
@@ -194,7 +203,7 @@ class Keyed:
 
     def gained(self, state, source, data):
         """The state with the event in the pool that its step picks."""
-        i = self.input_pool(state.scheduler_key, state.step)
+        i = self.picked(state)
         start, string = state.pools[i]
         string += source.to_bytes(2, "little") + bytes([len(data)]) + data
         return state._replace(pools=with_pool(state.pools, i, Pool(start, string)))
