@@ -14,40 +14,13 @@
 #include "streams.h"
 
 #include <inttypes.h>
-#include <time.h>
 
 /* A line becomes at most two characters longer. The shortest event, 6 characters, becomes 8: so 4/3 of a piece, rounded
    up, are always room enough, and FORTUNA_NO_ROOM does not come. */
 enum { PIECE = 65536, ROOM = PIECE + (PIECE + 2) / 3 };
 
-enum { QUIET = 5, EVERY = 10 }; /* seconds before a terminal is told how far the work is, and from then on */
-
 static uint8_t piece[PIECE];
 static uint8_t out[ROOM];
-
-/* ---- how far the work is */
-
-static double seconds(void)
-{
-    struct timespec now;
-    clock_gettime(CLOCK_MONOTONIC, &now);
-    return (double)now.tv_sec + (double)now.tv_nsec / 1e9;
-}
-
-/* Says it to a terminal only, so that nothing is said where standard error is kept in a file. */
-static void show_progress(uint64_t lines)
-{
-    static double start, next;
-    double now = seconds();
-    if (next == 0) {
-        start = now;
-        next = now + QUIET;
-    }
-    if (now < next || !isatty(STDERR_FILENO))
-        return;
-    next = now + EVERY;
-    fprintf(stderr, "convert: %.0f s, %" PRIu64 " lines converted\n", now - start, lines);
-}
 
 /* ---- pieces */
 
@@ -103,7 +76,7 @@ static void convert_log(bool wide)
         lines += line_feeds(piece, length);
         held -= length;
         memmove(piece, piece + length, held);
-        show_progress(lines);
+        show_progress(lines, "lines converted");
     }
     convert(held, wide, lines); /* a last line without a line feed */
 }

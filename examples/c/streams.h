@@ -1,16 +1,21 @@
 /* Standard input and output for the programs beside this: a read or a write that was interrupted is tried again, one on
-   a stream that does not wait is waited for, and one that failed ends the program with status 2. */
+   a stream that does not wait is waited for, and one that failed ends the program with status 2. A terminal is told how
+   far a long work is. */
 #ifndef STREAMS_H
 #define STREAMS_H
 
 #include <errno.h>
+#include <inttypes.h>
 #include <poll.h>
 #include <stdbool.h>
 #include <stdint.h>
 #include <stdio.h>
 #include <stdlib.h>
 #include <string.h>
+#include <time.h>
 #include <unistd.h>
+
+enum { QUIET = 5, EVERY = 10 }; /* seconds before a terminal is told how far the work is, and from then on */
 
 static const char *speaker; /* the program's name, which stands before whatever it says */
 
@@ -61,6 +66,28 @@ static inline void end_output(void)
 {
     if (close(STDOUT_FILENO) != 0)
         failed("standard output could not be written");
+}
+
+static inline double seconds(void)
+{
+    struct timespec now;
+    clock_gettime(CLOCK_MONOTONIC, &now);
+    return (double)now.tv_sec + (double)now.tv_nsec / 1e9;
+}
+
+/* Says how much is done to a terminal only, so that nothing is said where standard error is kept in a file. */
+static inline void show_progress(uint64_t count, const char *what)
+{
+    static double start, next;
+    double now = seconds();
+    if (next == 0) {
+        start = now;
+        next = now + QUIET;
+    }
+    if (now < next || !isatty(STDERR_FILENO))
+        return;
+    next = now + EVERY;
+    fprintf(stderr, "%s: %.0f s, %" PRIu64 " %s\n", speaker, now - start, count, what);
 }
 
 #endif
