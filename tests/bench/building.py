@@ -1,6 +1,7 @@
 """What the commands in bin/ build before they run: the bench program, and over the static library the health tests'
-program, one that makes calls with a list of quotas, one that converts call logs and one that reads pools' strings. rt
-proves whatever has changed; that takes minutes, and standard error says how far it is."""
+program, one that makes calls with a list of quotas, one that converts call logs, one that reads pools' strings and one
+that tells the keyed scheduler's pools. rt proves whatever has changed; that takes minutes, and standard error says how
+far it is."""
 import contextlib
 import fcntl
 import hashlib
@@ -22,6 +23,7 @@ HEALTH = ROOT / "tests" / "c_interface" / "health.c"
 METERED = ROOT / "tests" / "bench" / "metered.c"
 CONVERT = ROOT / "examples" / "c" / "convert.c"
 EVENTS = ROOT / "examples" / "c" / "events.c"
+STEPS = ROOT / "examples" / "c" / "steps.c"
 # The headers that the drivers include.
 HEADERS = [
     ROOT / "include" / "fortuna.h",
@@ -195,3 +197,7 @@ def convert_program(name, verbose=False):
 
 def events_program(name, verbose=False):
     return library_program(EVENTS, name, verbose)
+
+
+def steps_program(name, verbose=False):
+    return library_program(STEPS, name, verbose)

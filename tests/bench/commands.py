@@ -1,6 +1,7 @@
 #!/usr/bin/env python3
 """Runs the commands in bin/ as a user does: from another folder, through a link, with wrong words and missing files.
-health_commands.py, convert_commands.py and behind_commands.py, beside this, have what needs the static library.
+health_commands.py, convert_commands.py, behind_commands.py and steps_commands.py, beside this, have what needs the
+static library.
 
     tests/bench/commands.py      a line for each check; exits 1 where one failed"""
 import hashlib
@@ -17,7 +18,7 @@ from frames import event, log_of, request, update, wide_event, write
 from program import Failure
 
 LOGS = ROOT / "tests" / "bench" / "logs"
-COMMANDS = ("bench", "logbook", "checklist", "health", "convert", "events")
+COMMANDS = ("bench", "logbook", "checklist", "health", "convert", "events", "steps")
 ARCHIVE = LOGS / "archive.log"
 KINDS = {  # of logbook
     "2010": [],

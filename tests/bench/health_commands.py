@@ -256,14 +256,16 @@ def builds(folder):
 def ends_with_rt(folder):
     """A signal that ends a command while rt runs ends rt too, and nothing is said."""
     copy = copied(folder)
-    names = ("bench", "checklist", "convert", "events")
-    bench, checklist, convert, events = (str(copy / "bin" / name) for name in names)
+    names = ("bench", "checklist", "convert", "events", "steps")
+    bench, checklist, convert, events, steps = (str(copy / "bin" / name) for name in names)
+    (folder / "key").write_bytes(bytes(32))
     played, given = with_rt(folder, LONG_RT)
     for words in (
         one_reading(copy, folder),
         [bench, "one.txt"],
         [convert, "--to", "05", "one.txt"],
         [events, "one.txt"],
+        [steps, "key", "0", "9"],
         [checklist, "may"],
         [checklist, "april", "--bench", "/bin/false"],
     ):
