@@ -29,7 +29,8 @@ def bounds():
 
 
 def measured(archive):
-    """For each function the stack that it needed, and the copies of K, and of V of CTR_DRBG, that it left."""
+    """For each function the stack that it needed, and the copies that it left: of K, and of V of CTR_DRBG or of the
+    scheduler key."""
     with tempfile.TemporaryDirectory() as directory:
         program = Path(directory) / "stack"
         # all of C's functions found before the start: to find one at its first call would take stack too
@@ -40,12 +41,14 @@ def measured(archive):
     return {name: (int(used), left) for name, used, *left in rows}
 
 
-def copies_said(left):
-    """Of the key before and after a call, and for CTR_DRBG of V before and after it."""
+def copies_said(name, left):
+    """Of the key before and after a call; for CTR_DRBG of V before and after it; of the scheduler key, which stays."""
     if not left:
         return ""
-    of_v = f", of V {left[2]} and {left[3]}" if left[2:] else ""
-    return f"; copies of K left: {left[0]} of the one before, {left[1]} of the one after{of_v}"
+    said = f"; copies of K left: {left[0]} of the one before, {left[1]} of the one after"
+    if not left[2:]:
+        return said
+    return f"{said}, of {f'the scheduler key {left[2]}' if 'keyed' in name else f'V {left[2]} and {left[3]}'}"
 
 
 def stack_faults(archive, exported):
@@ -59,7 +62,7 @@ def stack_faults(archive, exported):
             yield f"{name} is not measured by tests/compiled/stack.c"
         else:
             used, left = found[name]
-            print(f"{name}: {used:,} bytes of stack, at most {table[name]:,} said{copies_said(left)}")
+            print(f"{name}: {used:,} bytes of stack, at most {table[name]:,} said{copies_said(name, left)}")
             if used > table[name]:
                 yield f"{name} needs {used:,} bytes of stack, and include/fortuna.h says at most {table[name]:,}"
 

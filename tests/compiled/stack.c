@@ -1,9 +1,9 @@
 /* The stack that each exported call needs, and what it leaves there: each call runs in a thread on a painted stack.
    Prints a line for each function: its name, the most bytes of stack that a case of it needed, and for calls on a
    state the most copies of its key that stood there when the call had ended: of the key before it, and of the key after
-   it; for CTR_DRBG then the same of V. Stops where such a call is refused that should be accepted, or the other way
-   round: a refused one needs less. Stops too where a conversion or the reader of a pool's string does not answer as it
-   should. */
+   it; for CTR_DRBG then the same of V, and for the keyed scheduler of the scheduler key. Stops where such a call is
+   refused that should be accepted, or the other way round: a refused one needs less. Stops too where a conversion or
+   the reader of a pool's string does not answer as it should. */
 #define _GNU_SOURCE
 #include "fortuna.h"
 
@@ -27,6 +27,7 @@ static size_t records;
 static fortuna_health health;
 static uint32_t samples[SAMPLES];
 static fortuna_ctr_drbg drbg;
+static fortuna_keyed keyed;
 static char lines[1 << 16];
 static size_t line_count;
 
@@ -157,6 +158,68 @@ static void drbg_unseeded(void)
     drbg.reseed_counter = 0;
 }
 
+/* The second event is at a step that empties a pool, and no pool is empty. */
+static void keyed_seeded(void)
+{
+    uint8_t scheduler_key[32];
+    for (size_t i = 0; i < sizeof scheduler_key; i++)
+        scheduler_key[i] = (uint8_t)(7 * i + 4);
+    due();
+    keyed = fortuna_keyed_new(scheduler_key);
+    keyed.generator = state.generator;
+    memcpy(keyed.pools, state.pools, sizeof keyed.pools);
+    keyed.step = 31;
+}
+
+static void keyed_malformed(void)
+{
+    keyed_seeded();
+    keyed.last_reseed = 1;
+}
+
+static void keyed_blank(void)
+{
+    keyed_seeded();
+    memset(seed, 0xff, sizeof seed);
+}
+
+static void keyed_fresh(void)
+{
+    keyed_seeded();
+    keyed = fortuna_keyed_new(data);
+}
+
+static void keyed_at_end(void)
+{
+    keyed_seeded();
+    keyed.step = UINT64_MAX;
+}
+
+static void keyed_rising(void)
+{
+    keyed_seeded();
+    for (uint32_t i = 0; i < RECORDS; i++)
+        quotas[i].source = SOURCE + 1 - RECORDS + i;
+}
+
+static void keyed_no_records(void)
+{
+    keyed_seeded();
+    records = 0;
+}
+
+static void keyed_overspent(void)
+{
+    keyed_seeded();
+    quotas[RECORDS - 1].allowance = 0;
+}
+
+static void keyed_spent(void)
+{
+    keyed_seeded();
+    quotas[RECORDS - 1].allowance = 3;
+}
+
 /* ---- the calls */
 
 enum { CLOCK = 9999 };
@@ -199,6 +262,15 @@ static void drbg_block_with(void) { fortuna_ctr_drbg_generate(&drbg, out, 16, se
 static void drbg_most(void) { fortuna_ctr_drbg_generate(&drbg, out, MOST, seed, 0); }
 static void drbg_most_with(void) { fortuna_ctr_drbg_generate(&drbg, out, MOST, seed, ENTROPY); }
 static void drbg_above(void) { fortuna_ctr_drbg_generate(&drbg, out, MOST + 1, seed, 0); }
+static void keyed_new(void) { keyed = fortuna_keyed_new(data); }
+static void keyed_input(void) { fortuna_keyed_input(data, 12345); }
+static void keyed_output(void) { fortuna_keyed_output((uint64_t)1 << 63); }
+static void keyed_request(void) { fortuna_keyed_request(&keyed, out, 1000); }
+static void keyed_update(void) { fortuna_keyed_update(&keyed, seed, sizeof seed); }
+static void keyed_write(void) { fortuna_keyed_write(&keyed, seed, sizeof seed); }
+static void keyed_metered_request(void) { fortuna_keyed_metered_request(&keyed, quotas, records, out, 1000); }
+static void keyed_metered_update(void) { fortuna_keyed_metered_update(&keyed, quotas, records, seed, sizeof seed); }
+static void keyed_metered_write(void) { fortuna_keyed_metered_write(&keyed, quotas, records, seed, sizeof seed); }
 static void run_log(void) { fortuna_log((const uint8_t *)lines, line_count, out, sizeof out); }
 
 /* Events of several lengths, so that the pool's tail is filled, passed over and met exactly. */
@@ -212,6 +284,18 @@ static void metered_event(void)
 {
     for (size_t length = 0; length <= 33; length++)
         fortuna_metered_event(&state, quotas, records, SOURCE, 3, data, length);
+}
+
+static void keyed_event(void)
+{
+    for (size_t length = 0; length <= 33; length++)
+        fortuna_keyed_event(&keyed, SOURCE, data, length);
+}
+
+static void keyed_metered_event(void)
+{
+    for (size_t length = 0; length <= 33; length++)
+        fortuna_keyed_metered_event(&keyed, quotas, records, SOURCE, data, length);
 }
 
 static void add_line(const char *start, int count, int byte)
@@ -310,6 +394,12 @@ enum outcome { APART, ACCEPTED, REFUSED };
     {name, no_records, call, ACCEPTED}, {name, due_no_records, call, ACCEPTED}, \
     {name, rising, call, ACCEPTED}, {name, seeded, call, ACCEPTED}, {name, due, call, ACCEPTED}
 
+/* The same on the keyed scheduler, which draws nothing from its pools. */
+#define KEYED_METERED(name, call) \
+    {name, keyed_malformed, call, REFUSED}, {name, keyed_overspent, call, REFUSED}, \
+    {name, keyed_no_records, call, ACCEPTED}, {name, keyed_rising, call, ACCEPTED}, \
+    {name, keyed_seeded, call, ACCEPTED}, {name, keyed_at_end, call, ACCEPTED}
+
 static const struct {
     const char *name;
     void (*prepare)(void), (*call)(void);
@@ -358,6 +448,34 @@ static const struct {
     METERED("fortuna_metered_write", metered_write),
     METERED("fortuna_metered_random_below", metered_draw),
     METERED("fortuna_metered_shuffle", metered_shuffle),
+    {"fortuna_keyed_new", keyed_seeded, keyed_new, APART},
+    {"fortuna_keyed_input", nothing, keyed_input, APART},
+    {"fortuna_keyed_output", nothing, keyed_output, APART},
+    {"fortuna_keyed_event", keyed_malformed, keyed_event, REFUSED},
+    {"fortuna_keyed_event", keyed_at_end, keyed_event, REFUSED},
+    {"fortuna_keyed_event", keyed_seeded, keyed_event, ACCEPTED},
+    {"fortuna_keyed_event", keyed_fresh, keyed_event, ACCEPTED},
+    {"fortuna_keyed_request", keyed_malformed, keyed_request, REFUSED},
+    {"fortuna_keyed_request", keyed_fresh, keyed_request, REFUSED},
+    {"fortuna_keyed_request", keyed_seeded, keyed_request, ACCEPTED},
+    {"fortuna_keyed_update", keyed_malformed, keyed_update, REFUSED},
+    {"fortuna_keyed_update", keyed_blank, keyed_update, REFUSED},
+    {"fortuna_keyed_update", keyed_seeded, keyed_update, ACCEPTED},
+    {"fortuna_keyed_update", keyed_fresh, keyed_update, ACCEPTED},
+    {"fortuna_keyed_write", keyed_malformed, keyed_write, REFUSED},
+    {"fortuna_keyed_write", keyed_seeded, keyed_write, ACCEPTED},
+    {"fortuna_keyed_metered_event", keyed_malformed, keyed_metered_event, REFUSED},
+    {"fortuna_keyed_metered_event", keyed_no_records, keyed_metered_event, REFUSED},
+    {"fortuna_keyed_metered_event", keyed_overspent, keyed_metered_event, REFUSED},
+    {"fortuna_keyed_metered_event", keyed_spent, keyed_metered_event, REFUSED},
+    {"fortuna_keyed_metered_event", keyed_at_end, keyed_metered_event, REFUSED},
+    {"fortuna_keyed_metered_event", keyed_rising, keyed_metered_event, ACCEPTED},
+    {"fortuna_keyed_metered_event", keyed_seeded, keyed_metered_event, ACCEPTED},
+    KEYED_METERED("fortuna_keyed_metered_request", keyed_metered_request),
+    {"fortuna_keyed_metered_request", keyed_fresh, keyed_metered_request, REFUSED},
+    KEYED_METERED("fortuna_keyed_metered_update", keyed_metered_update),
+    {"fortuna_keyed_metered_update", keyed_blank, keyed_metered_update, REFUSED},
+    KEYED_METERED("fortuna_keyed_metered_write", keyed_metered_write),
     {"fortuna_log", write_log, run_log, APART},
     {"fortuna_convert", write_frames, widen, APART},
     {"fortuna_convert", write_frames, narrow, APART},
@@ -434,25 +552,31 @@ static size_t copies_of(const uint8_t *secret, size_t size)
     return found;
 }
 
-/* What a call works on: what of it changes exactly if the call is accepted, and where its key stands. Only CTR_DRBG has
-   a V that is secret. */
+/* What a call works on, with its size: how much of it changes exactly if the call is accepted, and where its key
+   stands; where it has another secret, V of CTR_DRBG or the scheduler key, where that one stands and its size. */
 typedef struct {
     const void *at;
-    size_t size, key, v;
+    size_t whole, size, key, other, other_size;
 } lent;
 
-enum { NO_V = 0, KEY_SIZE = 32, V_SIZE = 16 };
+enum { KEY_SIZE = 32 };
 
 static lent lent_to(const char *name)
 {
     if (!strncmp(name, "fortuna_ctr_drbg_", 17))
-        return (lent){&drbg, sizeof drbg, offsetof(fortuna_ctr_drbg, key), offsetof(fortuna_ctr_drbg, v)};
-    return (lent){&state, offsetof(fortuna_state, last_reseed), offsetof(fortuna_state, generator.key), NO_V};
+        return (lent){.at = &drbg, .whole = sizeof drbg, .size = sizeof drbg, .key = offsetof(fortuna_ctr_drbg, key),
+                      .other = offsetof(fortuna_ctr_drbg, v), .other_size = sizeof drbg.v};
+    if (!strncmp(name, "fortuna_keyed_", 14))
+        return (lent){.at = &keyed, .whole = sizeof keyed, .size = offsetof(fortuna_keyed, last_reseed),
+                      .key = offsetof(fortuna_keyed, generator.key),
+                      .other = offsetof(fortuna_keyed, scheduler_key), .other_size = sizeof keyed.scheduler_key};
+    return (lent){.at = &state, .whole = sizeof state, .size = offsetof(fortuna_state, last_reseed),
+                  .key = offsetof(fortuna_state, generator.key)};
 }
 
-/* The most copies that a case left: of the key before the call and after it, and of V. */
+/* The most copies that a case left: of the key before the call and after it, and of the other secret. */
 typedef struct {
-    size_t key[2], v[2];
+    size_t key[2], other[2];
 } copies;
 
 static void count_copies(copies *most, const lent *on, const uint8_t *old)
@@ -460,8 +584,8 @@ static void count_copies(copies *most, const lent *on, const uint8_t *old)
     const uint8_t *const both[2] = {old, on->at};
     for (int i = 0; i < 2; i++) {
         most->key[i] = larger(most->key[i], copies_of(both[i] + on->key, KEY_SIZE));
-        if (on->v != NO_V)
-            most->v[i] = larger(most->v[i], copies_of(both[i] + on->v, V_SIZE));
+        if (on->other_size > 0)
+            most->other[i] = larger(most->other[i], copies_of(both[i] + on->other, on->other_size));
     }
 }
 
@@ -478,14 +602,14 @@ static void print_line(const char *name, size_t most, const lent *on, const copi
     printf("%s %zu", name, most);
     if (on)
         printf(" %zu %zu", left->key[0], left->key[1]);
-    if (on && on->v != NO_V)
-        printf(" %zu %zu", left->v[0], left->v[1]);
+    if (on && on->other_size > 0)
+        printf(" %zu %zu", left->other[0], left->other[1]);
     printf("\n");
 }
 
 int main(void)
 {
-    static uint8_t old[sizeof(fortuna_state)];
+    static uint8_t old[sizeof(fortuna_keyed)]; /* the largest of the states */
     stack = aligned_alloc(4096, STACK);
     const size_t base = used_by(nothing);
     for (int i = 0; i < CASES;) {
@@ -496,7 +620,7 @@ int main(void)
         copies left = {0};
         for (; i < CASES && !strcmp(cases[i].name, name); i++) {
             cases[i].prepare();
-            memcpy(old, on.at, on.size);
+            memcpy(old, on.at, on.whole);
             most = larger(most, used_by(cases[i].call) - base);
             check_acceptance(i, &on, old);
             count_copies(&left, &on, old);
