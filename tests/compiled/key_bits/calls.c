@@ -1,9 +1,9 @@
 /* Every call that works on a key, with the key's bytes marked as unknown to memcheck: it reports each jump, and each
-   address, that they decide. For CTR_DRBG Key, V and the bytes of every input are unknown; lengths and the reseed
-   counter are known. As 'calls blank' and 'calls other' it makes one seed update, by a blank page or by one whose last byte is
-   another, with the seed's bytes unknown in place of the key's; as 'calls metered-blank' and 'calls metered-other' the
-   same with a list. A list of quotas is no secret, and known throughout: whether it is cleared must not go by the
-   key. */
+   address, that they decide. For the keyed scheduler the scheduler key is unknown too. For CTR_DRBG Key, V and the bytes
+   of every input are unknown; lengths and the reseed counter are known. As 'calls blank' and 'calls other' it makes one
+   seed update, by a blank page or by one whose last byte is another, with the seed's bytes unknown in place of the
+   key's; as 'calls metered-blank' and 'calls metered-other' the same with a list. A list of quotas is no secret, and
+   known throughout: whether it is cleared must not go by the key. */
 #include <fortuna.h>
 #include <stdio.h>
 #include <stdlib.h>
@@ -110,6 +110,64 @@ static void metered_draws(void)
     cleared("metered shuffle with a reseed");
 }
 
+/* A seeded keyed scheduler, one step before one that empties a pool. Both its keys are unknown, the scheduler key from
+   before its fresh start on. */
+static fortuna_keyed keyed(void)
+{
+    uint8_t scheduler_key[32];
+    for (size_t i = 0; i < sizeof scheduler_key; i++)
+        scheduler_key[i] = (uint8_t)(3 * i + 1);
+    VALGRIND_MAKE_MEM_UNDEFINED(scheduler_key, sizeof scheduler_key);
+    fortuna_keyed s = fortuna_keyed_new(scheduler_key);
+    for (size_t i = 0; i < SEED; i++)
+        seed[i] = (uint8_t)i;
+    done("keyed update", fortuna_keyed_update(&s, seed, SEED).number);
+    VALGRIND_MAKE_MEM_UNDEFINED(s.generator.key, sizeof s.generator.key);
+    s.step = 31;
+    return s;
+}
+
+/* The step number and the number of pools emptied must be known after any call: they go by no key. */
+static void emptied(const char *call, fortuna_answer a, uint32_t expected)
+{
+    done(call, a.number);
+    answered(call, a.emptied, expected);
+}
+
+static void keyed_calls(void)
+{
+    fortuna_keyed s = keyed();
+    emptied("keyed event", fortuna_keyed_event(&s, 1, seed, 32), 0);
+    emptied("keyed event that empties a pool", fortuna_keyed_event(&s, 1, seed, 32), 1);
+    emptied("keyed event, again", fortuna_keyed_event(&s, 1, seed, 1), 0);
+    emptied("keyed request", fortuna_keyed_request(&s, output, OUTPUT), 0);
+    emptied("keyed write", fortuna_keyed_write(&s, seed, SEED), 0);
+    VALGRIND_MAKE_MEM_DEFINED(seed, SEED);
+    emptied("keyed update", fortuna_keyed_update(&s, seed, SEED), 0);
+    (void)fortuna_keyed_input(s.scheduler_key, s.step);
+    s.step = UINT64_MAX;
+    answered("keyed event past the last step", fortuna_keyed_event(&s, 1, seed, 32).number, FORTUNA_STEPS_SPENT);
+    s.last_reseed = 1;
+    answered("keyed event on a malformed state", fortuna_keyed_event(&s, 1, seed, 32).number, FORTUNA_MALFORMED);
+}
+
+/* The same with a list. */
+static void keyed_metered_calls(void)
+{
+    fortuna_keyed s = keyed();
+    fill_quotas(false);
+    emptied("keyed metered event", fortuna_keyed_metered_event(&s, quotas, RECORDS, 1, seed, 31), 0);
+    answered("keyed event over its allowance",
+             fortuna_keyed_metered_event(&s, quotas, RECORDS, 1, seed, 32).number, FORTUNA_OVER_ALLOWANCE);
+    emptied("keyed metered event that empties a pool",
+            fortuna_keyed_metered_event(&s, quotas, RECORDS, 2, seed, 32), 1);
+    cleared("keyed metered event that empties a pool");
+    emptied("keyed metered request", fortuna_keyed_metered_request(&s, quotas, RECORDS, output, OUTPUT), 0);
+    emptied("keyed metered write", fortuna_keyed_metered_write(&s, quotas, RECORDS, seed, SEED), 0);
+    VALGRIND_MAKE_MEM_DEFINED(seed, SEED);
+    emptied("keyed metered update", fortuna_keyed_metered_update(&s, quotas, RECORDS, seed, SEED), 0);
+}
+
 static void generator_calls(void)
 {
     fortuna_generator g = station().generator;
@@ -214,6 +272,8 @@ int main(int count, char **words)
         metered_calls(false);
         metered_calls(true);
         metered_draws();
+        keyed_calls();
+        keyed_metered_calls();
         generator_calls();
         cipher_calls();
         drbg_calls();
