@@ -36,7 +36,7 @@ NUMBERS = {
     "update": (15, 36, 37, 21, 24),
     "write": (15, 37, 21, 23, 24),
 }
-APART = {(38, 39), (45, 24), (23, 24)}  # numbers that never apply both
+APART = {(38, 39), (45, 24), (23, 24)}  # never both: 2^64 - 1 is odd, and at C = 0 nothing is spent
 
 
 class Parts(Keyed):

@@ -1,9 +1,9 @@
 /* Every call that works on a key, with the key's bytes marked as unknown to memcheck: it reports each jump, and each
-   address, that they decide. For the keyed scheduler the scheduler key is unknown too. For CTR_DRBG Key, V and the bytes
-   of every input are unknown; lengths and the reseed counter are known. As 'calls blank' and 'calls other' it makes one
-   seed update, by a blank page or by one whose last byte is another, with the seed's bytes unknown in place of the
-   key's; as 'calls metered-blank' and 'calls metered-other' the same with a list. A list of quotas is no secret, and
-   known throughout: whether it is cleared must not go by the key. */
+   address, that they decide. The scheduler key is unknown too. For CTR_DRBG Key, V and the bytes of every input are
+   unknown; lengths and the reseed counter are known. As 'calls blank' and 'calls other' it makes one seed update, by a
+   blank page or by one whose last byte is another, with the seed's bytes unknown in place of the key's; with 'metered-'
+   before the word the same with a list, and with 'keyed-' or 'keyed-metered-' on the keyed scheduler. A list of quotas
+   is no secret, and known throughout: whether it is cleared must not go by the key. */
 #include <fortuna.h>
 #include <stdio.h>
 #include <stdlib.h>
@@ -256,18 +256,53 @@ static void metered_update_by(uint8_t last, uint32_t expected)
              expected);
 }
 
+static void keyed_update_by(uint8_t last, uint32_t expected)
+{
+    fortuna_keyed s = fortuna_keyed_new(output);
+    unknown_seed(last);
+    answered("keyed update by an unknown seed", fortuna_keyed_update(&s, seed, SEED).number, expected);
+}
+
+static void keyed_metered_update_by(uint8_t last, uint32_t expected)
+{
+    fortuna_keyed s = fortuna_keyed_new(output);
+    fill_quotas(false);
+    unknown_seed(last);
+    answered("keyed metered update by an unknown seed",
+             fortuna_keyed_metered_update(&s, quotas, RECORDS, seed, SEED).number, expected);
+}
+
+static const struct {
+    const char *before;
+    void (*update_by)(uint8_t last, uint32_t expected);
+} UPDATES[] = {
+    {"", update_by},
+    {"metered-", metered_update_by},
+    {"keyed-", keyed_update_by},
+    {"keyed-metered-", keyed_metered_update_by},
+};
+
+/* Makes one update, and says whether the word asks for one. */
+static bool one_update(const char *word)
+{
+    for (size_t i = 0; i < sizeof UPDATES / sizeof *UPDATES; i++) {
+        const size_t length = strlen(UPDATES[i].before);
+        if (strncmp(word, UPDATES[i].before, length) != 0)
+            continue;
+        if (strcmp(word + length, "blank") == 0)
+            UPDATES[i].update_by(0xff, FORTUNA_BLANK_SEED);
+        else if (strcmp(word + length, "other") == 0)
+            UPDATES[i].update_by(0xfe, FORTUNA_DONE);
+        else
+            continue;
+        return true;
+    }
+    return false;
+}
+
 int main(int count, char **words)
 {
-    const char *which = count == 2 ? words[1] : "key";
-    if (strcmp(which, "blank") == 0) {
-        update_by(0xff, FORTUNA_BLANK_SEED);
-    } else if (strcmp(which, "other") == 0) {
-        update_by(0xfe, FORTUNA_DONE);
-    } else if (strcmp(which, "metered-blank") == 0) {
-        metered_update_by(0xff, FORTUNA_BLANK_SEED);
-    } else if (strcmp(which, "metered-other") == 0) {
-        metered_update_by(0xfe, FORTUNA_DONE);
-    } else {
+    if (count != 2 || !one_update(words[1])) {
         station_calls();
         metered_calls(false);
         metered_calls(true);
