@@ -120,16 +120,16 @@ def any_call(m):
 
 
 def runs(m):
-    """From a fresh start under several keys, with refused calls among the others."""
-    for key in KEYS:
+    """From a fresh start under several keys, with refused calls among the others; the last one past step 256."""
+    for key, steps in zip((KEYS[0], KEYS[1], KEYS[3], KEYS[2]), (70, 70, 70, 260)):
         m.add(script.new(key))
-        for _ in range(150):
+        while m.state.step < steps:
             m.add(any_call(m))
 
 
 def events_alone(m):
-    """Events from a fresh start, with a request refused before the first emptying and served after it; then the pools
-    of a seed that came first."""
+    """Events from a fresh start, with a request refused before the first emptying and served after it; then the same
+    behind a seed."""
     for first in ([], [script.update(SEED_BYTES)]):
         m.add(script.new(KEYS[2]), *first)
         for _ in range(140):
