@@ -1,6 +1,7 @@
-/* Fortuna with its pools, timer and seeds, the generator alone, SHA-256, D and AES-256, health tests that tell a stuck
-   noise source, NIST's CTR_DRBG, a converter of call logs between frames 01 and 05, and a reader of the events behind a
-   pool: the static library fortuna_c, for x86-64. It calls memcpy and memset, and nothing else.
+/* Fortuna with its pools, timer and seeds, Fortuna with its pools chosen by key, the generator alone, SHA-256, D and
+   AES-256, health tests that tell a stuck noise source, NIST's CTR_DRBG, a converter of call logs between frames 01 and
+   05, and a reader of the events behind a pool: the static library fortuna_c, for x86-64. It calls memcpy and memset,
+   and nothing else.
 
    STATIONS START FRESH AFTER THE UPDATE TO THE 2010 EDITION'S D: call fortuna_new, then fortuna_update with the stored
    seed. Take up no fortuna_state that was kept by a version whose header has fortuna_double_sha256, the name of D then.
@@ -48,6 +49,17 @@
        fortuna_metered_write           43,008
        fortuna_metered_random_below    53,248
        fortuna_metered_shuffle         64,512
+       fortuna_keyed_new               12,288
+       fortuna_keyed_event             30,720
+       fortuna_keyed_request           23,552
+       fortuna_keyed_update            23,552
+       fortuna_keyed_write             23,552
+       fortuna_keyed_metered_event     30,720
+       fortuna_keyed_metered_request   23,552
+       fortuna_keyed_metered_update    23,552
+       fortuna_keyed_metered_write     23,552
+       fortuna_keyed_input              5,120
+       fortuna_keyed_output               256
        fortuna_log                    270,336
        fortuna_convert                    512
        fortuna_entry_at                   256
@@ -60,7 +72,8 @@
 
    The library wipes no memory. After a call copies of the state's key K are left on the stack below the caller, also
    of the K that the next call starts from. A call of CTR_DRBG leaves copies of its Key and its V there, also of those
-   that the next call starts from. Where others may read that memory, wipe it, or run the calls on a stack of their own.
+   that the next call starts from. A call of the keyed scheduler leaves copies of the scheduler key beside those of K.
+   Where others may read that memory, wipe it, or run the calls on a stack of their own.
 
    Traces. No branch in the ciphers goes by key or data, but both read tables at places that key and data pick, and a
    trace of the power or of the cache may tell those places. To expand a key both read the S-box, 256 bytes. The calls
@@ -68,7 +81,8 @@
    The cipher that goes byte by byte reads the S-box for blocks too and nothing else: a smaller leak, not none. It is
    there for firmware that enciphers under keys of its own where such traces matter (fortuna_aes256_bytewise_block).
    In CTR_DRBG no branch goes by Key, by V or by what an input holds: only by lengths and by the reseed counter. A step
-   of V goes through all its 16 bytes, however far the carry gets.
+   of V goes through all its 16 bytes, however far the carry gets. The keyed scheduler's event enciphers under the
+   scheduler key by the same tables, and works on the pool that comes of it: a trace may tell the pool too.
 
    Numbers returned: FORTUNA_DONE, or the number of a refusal. Where more than one applies it is the first in the order
    of the list below, but for CTR_DRBG, whose section has its order. After a refusal buffers, quotas and state are as
@@ -122,15 +136,18 @@ enum {
     /* a malformed state, which no run of calls leaves: a pool length above 2^61 - 65; a byte after a pool's tail that
        is not 0; a pool below 64 bytes whose chain is not the empty pool's, which stands at fortuna_pool; counter 0 with
        a key that is not all zero; counter 0 with reseeded set; reseeded clear with a last_reseed or a reseed_count that
-       is not 0; counter 0 with a key_requests above 0. For the generator alone: counter 0 with a key that is not all
-       zero */
+       is not 0; counter 0 with a key_requests above 0. For the keyed scheduler also reseeded set, or a last_reseed or a
+       reseed_count that is not 0. For the generator alone: counter 0 with a key that is not all zero */
     FORTUNA_MALFORMED = 21,
     /* an event: its pool's length with the 3 bytes of header and the data would pass 2^61 - 65 */
     FORTUNA_POOL_FULL = 22,
     /* a request, a seed write, a draw or a shuffle of 2 numbers or more, with counter 0 and no pool reseed due. For the
-       generator alone: blocks or a request with counter 0 */
+       generator alone blocks or a request, and for the keyed scheduler a request or a seed write, with counter 0 */
     FORTUNA_UNSEEDED = 23,
-    /* a counter that would grow above 2^128 - 1, for a draw or a shuffle if it made all its tries */
+    /* an event of the keyed scheduler: its step number is 2^64 - 1 */
+    FORTUNA_STEPS_SPENT = 45,
+    /* a counter that would grow above 2^128 - 1, for a draw or a shuffle if it made all its tries; of the keyed
+       scheduler's events only one whose step empties a pool makes it grow */
     FORTUNA_COUNTER_SPENT = 24,
     /* a draw, or one of a shuffle's: no try fell below n */
     FORTUNA_NONE_DRAWN = 33,
@@ -410,6 +427,108 @@ fortuna_answer fortuna_metered_shuffle(fortuna_state *state, fortuna_quota *quot
    the refusal; after 00 for 02, 03 and 04 a space and the pools emptied in two decimal digits, then, unless n = 0, a
    space and the bytes in capital hexadecimal. Stores as many characters as there is room for, and returns how many. */
 size_t fortuna_log(const uint8_t *log, size_t length, uint8_t *out, size_t room);
+
+/* ---- Pools chosen by key, for noise bursts that follow the round of pools
+
+   With the calls above the caller names the pool of each event, as a rule the pools in turn. Noise that comes in bursts
+   of the same rhythm then goes to the same pools again and again, and these may be some that are used once in years.
+   The keyed scheduler chooses the pool itself, by a secret key, so that no burst can follow. It is a state of its own,
+   which no call above takes, and its calls take no fortuna_state.
+
+   UPDATE THE SEED FIRST. An empty pool is emptied too: from the 33rd event on requests are answered, even where nothing
+   unknown went in. Nothing tells such a key from a good one, and anybody can work it out. So call fortuna_keyed_update
+   with the stored seed before the first event. Where there is none (FORTUNA_BLANK_SEED), draw and write nothing until
+   as much noise has entered the key as it needs: run_keyed in examples/c/station.c counts the events that have.
+
+   The scheduler key is a secret of 32 bytes. Make it by a generator of its own, neither by the station that it is to
+   serve nor from the same noise, another for each device, and keep it: each start takes it again. Who knows it knows
+   where every event goes, and can make bursts that follow. It is in the state, and calls leave copies on the stack.
+
+   What happens at an event. The state counts the accepted events: that is the step number t, from 0.
+
+   - The event at step t goes to the pool that the first byte gives, modulo 32, of AES-256 under the scheduler key of t
+     as a block of 16 bytes, least significant first. fortuna_keyed_input tells it.
+   - Then, if t is above 0 and 32 divides t, the step empties one pool into the key: pool i, the largest i up to 31 with
+     which 32 * 2^i divides t. fortuna_keyed_output tells it. That pool's D reseeds the generator, the pool is empty
+     from then on, and key_requests is 0. The event at step t is in its pool before.
+
+         step   32   64   96   128   160   192   224   256   ..   2^35   2^36   2^37
+         pool    0    1    0     2     0     1     0     3   ..     30     31     31
+
+   - So an event in pool i enters the key once, fewer than 32 * 2^(i + 1) steps after its own, if so many events come.
+     This is proved of every scheduler key and every list of calls. bin/steps prints pools and steps for a key.
+   - An event answers how many pools it emptied, 0 or 1. A refused one is no step: t stays.
+   - No clock, and no rule of 64 bytes: events alone empty pools. Requests and seed calls answer 0 emptied. Where no
+     events come, the key stays as stale as it is; state.key_requests tells how many requests it has served.
+   - After 2^64 - 1 events comes FORTUNA_STEPS_SPENT, for events alone. At a thousand a second that is after half a
+     billion years: if it comes, the state was overwritten. Start fresh, from the stored seed.
+
+   Keep the state whole. Pools, step number and scheduler key belong together: set no field, and put no part of a state
+   into another. last_reseed, reseed_count and reseeded stay 0 (else FORTUNA_MALFORMED). Any step number and any
+   scheduler key are taken, and a wrong one is not told. A stored state that is taken up twice gives the same keys
+   twice: after a power-up begin with fortuna_keyed_new and the stored seed.
+
+   Not there: draws, shuffles, fortuna_log and lines for the bench. For these keep a fortuna_state beside it. */
+
+/* The state, 3,432 bytes. key_requests is the number of accepted requests and seed calls since the last step that
+   emptied a pool or the fresh start, stopping at 65,535. Any values may stand in it, save that the byte of reseeded is
+   0 or 1, as in a fortuna_state. */
+typedef struct {
+    fortuna_generator generator;
+    fortuna_pool pools[32];
+    uint32_t last_reseed;
+    uint32_t reseed_count;
+    bool reseeded;
+    uint16_t key_requests;
+    uint8_t scheduler_key[32];
+    uint64_t step;
+} fortuna_keyed;
+
+/* The fresh start under the 32 bytes at scheduler_key: unseeded, with empty pools, at step 0. */
+fortuna_keyed fortuna_keyed_new(const uint8_t scheduler_key[32]);
+
+/* The calls below work on the state that the caller keeps at state, one at a time, and no buffer may overlap it. */
+
+/* The pool that the step picks gains source, length and data as by fortuna_event. Then the step empties a pool or none.
+   FORTUNA_DONE, FORTUNA_BAD_SOURCE, FORTUNA_BAD_DATA, FORTUNA_MALFORMED, FORTUNA_POOL_FULL, FORTUNA_STEPS_SPENT or,
+   where the step empties a pool, FORTUNA_COUNTER_SPENT. */
+fortuna_answer fortuna_keyed_event(fortuna_keyed *state, uint32_t source, const uint8_t *data, size_t length);
+
+/* Fills the length bytes at out.
+   FORTUNA_DONE, FORTUNA_REQUEST_TOO_LONG, FORTUNA_MALFORMED, FORTUNA_UNSEEDED or FORTUNA_COUNTER_SPENT. */
+fortuna_answer fortuna_keyed_request(fortuna_keyed *state, uint8_t *out, size_t length);
+
+/* As fortuna_update: the 64 bytes at seed reseed the generator, and the seed of the next start overwrites them. Store
+   that before any byte is drawn.
+   FORTUNA_DONE, FORTUNA_BAD_SEED, FORTUNA_BLANK_SEED, FORTUNA_MALFORMED or FORTUNA_COUNTER_SPENT. */
+fortuna_answer fortuna_keyed_update(fortuna_keyed *state, uint8_t *seed, size_t length);
+
+/* As fortuna_write: a request for 64 bytes overwrites the 64 bytes at seed, for the next start.
+   FORTUNA_DONE, FORTUNA_BAD_SEED, FORTUNA_MALFORMED, FORTUNA_UNSEEDED or FORTUNA_COUNTER_SPENT. */
+fortuna_answer fortuna_keyed_write(fortuna_keyed *state, uint8_t *seed, size_t length);
+
+/* The same with the list at quotas, of as many records as `records` says ('Calls with quotas' above). An event that
+   empties a pool stands for the pool reseed: it sets all spent to 0, its own source's too. A request and a seed call
+   look at the list and change nothing there. Beside the numbers of the function without a list: FORTUNA_BAD_QUOTAS, and
+   for an event FORTUNA_NOT_LISTED and FORTUNA_OVER_ALLOWANCE.
+
+   Choose allowances with which the sources bring 33 events from a fresh start, and then 32 from one emptying to the
+   next. If they have all spent theirs before, no step empties a pool any more, and every event is refused with
+   FORTUNA_OVER_ALLOWANCE from then on. */
+fortuna_answer fortuna_keyed_metered_event(fortuna_keyed *state, fortuna_quota *quotas, size_t records, uint32_t source,
+                                           const uint8_t *data, size_t length);
+fortuna_answer fortuna_keyed_metered_request(fortuna_keyed *state, const fortuna_quota *quotas, size_t records,
+                                             uint8_t *out, size_t length);
+fortuna_answer fortuna_keyed_metered_update(fortuna_keyed *state, const fortuna_quota *quotas, size_t records,
+                                            uint8_t *seed, size_t length);
+fortuna_answer fortuna_keyed_metered_write(fortuna_keyed *state, const fortuna_quota *quotas, size_t records,
+                                           uint8_t *seed, size_t length);
+
+/* The pool, 0 to 31, that the event at a step goes to under a scheduler key. Both may be any. */
+uint32_t fortuna_keyed_input(const uint8_t scheduler_key[32], uint64_t step);
+
+/* The pool that a step empties, or 32 where it empties none. */
+uint32_t fortuna_keyed_output(uint64_t step);
 
 /* ---- Logs of both kinds: with events by frame 01, as in archives, and by frame 05, as new hubs write them
 
