@@ -2,10 +2,11 @@
    tested and goes in as events, link keys, a radio slot and the order of a polling list come out. One source gets
    stuck: the health tests tell before its stuck readings become an event. Another digitiser is fresh from the works:
    its page of flash memory was never written, so it waits for noise before it has a seed. At a later power-up a
-   tiltmeter floods: a list of quotas turns back what is too much, and the seismometer goes on. At the last one the
-   digitiser is a permanent station, whose network wants keys from CTR_DRBG. A log of calls is run, logs are converted
-   from frame 01 to 05 and back, and an analyst lists the events behind a pool. Noise, clock and flash pages are
-   stand-ins, so each run prints the same.
+   tiltmeter floods: a list of quotas turns back what is too much, and the seismometer goes on. At another one the
+   digitiser is a permanent station, whose network wants keys from CTR_DRBG. At the last two its pools are chosen by
+   key, since its noise comes in bursts that follow the round of pools. A log of calls is run, logs are converted from
+   frame 01 to 05 and back, and an analyst lists the events behind a pool. Noise, clock, keys that are kept and flash
+   pages are stand-ins, so each run prints the same.
 
    One call at a time on a state: here the task that runs main owns the state and makes every call. Interrupts only put
    noise into a ring buffer, and the owner takes it from there between its other calls. */
@@ -62,6 +63,7 @@ static const struct {
     {FORTUNA_MALFORMED, "a malformed state"},
     {FORTUNA_POOL_FULL, "a full pool"},
     {FORTUNA_UNSEEDED, "no seed and too little noise"},
+    {FORTUNA_STEPS_SPENT, "all 2^64 - 1 steps are made"},
     {FORTUNA_COUNTER_SPENT, "the counter is spent"},
     {FORTUNA_NONE_DRAWN, "no try gave a value"},
     {FORTUNA_CUTOFF_RANGE, "a cutoff outside 2 to 512"},
@@ -461,35 +463,51 @@ typedef struct {
     uint32_t number, taken, refused;
 } instrument;
 
+static const instrument fresh_instruments[INSTRUMENTS] = {
+    {"seismometer", 1, 0, 0}, {"tiltmeter", 4, 0, 0}, {"barometer", 900, 0, 0}};
+
 /* By rising sources, which makes the check of the list quicker. */
-static metered start_metered(const instrument from[INSTRUMENTS])
+static void list_quotas(fortuna_quota quotas[INSTRUMENTS], uint32_t allowance)
 {
-    metered m = {.state = fortuna_new()};
     for (size_t i = 0; i < INSTRUMENTS; i++)
-        m.quotas[i] = (fortuna_quota){.source = from[i].number, .allowance = ALLOWANCE};
-    return m;
+        quotas[i] = (fortuna_quota){.source = fresh_instruments[i].number, .allowance = allowance};
+}
+
+static void take_readings(uint32_t number, uint32_t turn, uint8_t data[READINGS])
+{
+    for (uint32_t i = 0; i < READINGS; i++)
+        data[i] = (uint8_t)reading(number, turn, i);
 }
 
 static uint32_t metered_event(metered *m, uint32_t number, uint32_t turn, uint32_t pool)
 {
     uint8_t data[READINGS];
-    for (uint32_t i = 0; i < READINGS; i++)
-        data[i] = (uint8_t)reading(number, turn, i);
+    take_readings(number, turn, data);
     return fortuna_metered_event(&m->state, m->quotas, INSTRUMENTS, number, pool, data, sizeof data);
 }
 
-/* An instrument's next event, for the pool after that of its last one taken. Too much is no fault of the device: the
-   event is dropped, and after the next pool reseed others are taken. */
-static void send_event(metered *m, instrument *from)
+static uint32_t next_turn(const instrument *from)
 {
-    const uint32_t turn = from->taken + from->refused;
-    const uint32_t number = metered_event(m, from->number, turn, from->taken % POOLS);
+    return from->taken + from->refused;
+}
+
+/* Too much is no fault of the device: the event is dropped, and after the next pool reseed others are taken. */
+static void count_event(instrument *from, uint32_t number)
+{
     if (number != FORTUNA_OVER_ALLOWANCE) {
         must("event", number);
         from->taken++;
-    } else if (from->refused++ == 0) {
-        printf("%s, event %u: refused, %u (%s)\n", from->name, turn + 1, number, reason(number));
+        return;
     }
+    if (from->refused == 0)
+        printf("%s, event %u: refused, %u (%s)\n", from->name, next_turn(from) + 1, number, reason(number));
+    from->refused++;
+}
+
+/* An instrument's next event, for the pool after that of its last one taken. */
+static void send_event(metered *m, instrument *from)
+{
+    count_event(from, metered_event(m, from->number, next_turn(from), from->taken % POOLS));
 }
 
 static void send_flood(metered *m, instrument *from)
@@ -508,11 +526,11 @@ static void send_round(metered *m, instrument *seismometer, instrument *tiltmete
     }
 }
 
-static void show_metered(const metered *m, const instrument from[INSTRUMENTS])
+static void show_spent(const fortuna_quota quotas[INSTRUMENTS], const instrument from[INSTRUMENTS])
 {
     for (size_t i = 0; i < INSTRUMENTS; i++)
         printf("%s: %u events taken, %u refused, %u of %u bytes spent\n", from[i].name, from[i].taken, from[i].refused,
-               m->quotas[i].spent, m->quotas[i].allowance);
+               quotas[i].spent, quotas[i].allowance);
 }
 
 /* A source that nobody put on the list. */
@@ -539,17 +557,19 @@ static void draw_metered(metered *m, uint32_t clock)
 /* A power-up from the seed that the last one left, with a list from the first call to the last. */
 static void flood(uint8_t page[SEED])
 {
-    instrument all[INSTRUMENTS] = {{"seismometer", 1, 0, 0}, {"tiltmeter", 4, 0, 0}, {"barometer", 900, 0, 0}};
-    metered m = start_metered(all);
+    instrument all[INSTRUMENTS];
+    metered m = {.state = fortuna_new()};
+    memcpy(all, fresh_instruments, sizeof all);
+    list_quotas(m.quotas, ALLOWANCE);
     printf("a tiltmeter floods\n");
     must("seed update", fortuna_metered_update(&m.state, m.quotas, INSTRUMENTS, 10, page, SEED).number);
     store("seed updated", page);
     send_round(&m, &all[0], &all[1], &all[2]);
     send_unlisted(&m);
-    show_metered(&m, all);
+    show_spent(m.quotas, all);
     draw_metered(&m, 1000);
     send_flood(&m, &all[1]); /* taken again, after the pool reseed */
-    show_metered(&m, all);
+    show_spent(m.quotas, all);
     must("seed write", fortuna_metered_write(&m.state, m.quotas, INSTRUMENTS, 2000, page, SEED).number);
     store("seed for the next start", page);
 }
@@ -606,6 +626,133 @@ static void run_permanent(uint8_t page[SEED])
     draw_network_key(&d, none, 0);
 }
 
+/* ---- pools chosen by key, for noise that comes in bursts */
+
+/* Stands in for the 32 bytes that were made in the works by a generator of its own, and are kept beside the seed. */
+static const uint8_t scheduler_key[32] = "scheduler key made in the works";
+
+/* How many of a fresh start's first events are in the key: those of a pool, once a step empties it. Without a stored
+   seed a device would draw nothing before this is enough by the estimate of its sources. */
+static uint32_t events_entered(uint64_t steps)
+{
+    uint32_t waiting[POOLS + 1] = {0}, entered = 0; /* the last one for steps that empty no pool */
+    for (uint64_t step = 0; step < steps; step++) {
+        const uint32_t out = fortuna_keyed_output(step);
+        waiting[fortuna_keyed_input(scheduler_key, step)]++;
+        entered += waiting[out];
+        waiting[out] = 0;
+    }
+    return entered;
+}
+
+/* Each instrument sends an event in each turn. Nobody names a pool. Health tests and ring buffer are left out here too:
+   a device has them. */
+static void gather_by_key(fortuna_keyed *f)
+{
+    uint8_t data[READINGS];
+    uint32_t emptied = 0;
+    for (uint32_t turn = 0; turn < TURNS; turn++)
+        for (size_t i = 0; i < INSTRUMENTS; i++) {
+            take_readings(fresh_instruments[i].number, turn, data);
+            const fortuna_answer a = fortuna_keyed_event(f, fresh_instruments[i].number, data, sizeof data);
+            must("event", a.number);
+            emptied += a.emptied;
+        }
+    printf("%u events taken, pools emptied %u, events in the key %u\n", (unsigned)f->step, emptied,
+           events_entered(f->step));
+}
+
+/* What the next event does, for whoever services the digitiser. bin/steps prints the same. */
+static void show_step(const fortuna_keyed *f)
+{
+    const uint32_t out = fortuna_keyed_output(f->step);
+    printf("step %u: event to pool %u", (unsigned)f->step, fortuna_keyed_input(f->scheduler_key, f->step));
+    if (out < POOLS)
+        printf(", empties pool %u", out);
+    printf("\n");
+}
+
+static void show_key_by_step(uint64_t step, uint32_t number, const uint8_t key[KEY])
+{
+    if (number != FORTUNA_DONE) {
+        printf("key after %u events: refused, %u (%s)\n", (unsigned)step, number, reason(number));
+        return;
+    }
+    printf("key after %u events: ", (unsigned)step);
+    print_bytes(key, KEY);
+}
+
+static void draw_key_by_step(fortuna_keyed *f)
+{
+    uint8_t key[KEY];
+    const fortuna_answer a = fortuna_keyed_request(f, key, sizeof key);
+    show_key_by_step(f->step, a.number, key);
+}
+
+/* A power-up with pools chosen by key. The seed goes in first: from the 33rd event on a key would be drawn without it
+   too, whatever the noise was worth. */
+static void run_keyed(uint8_t page[SEED])
+{
+    fortuna_keyed f = fortuna_keyed_new(scheduler_key);
+    printf("pools chosen by key\n");
+    draw_key_by_step(&f);
+    must("seed update", fortuna_keyed_update(&f, page, SEED).number);
+    store("seed updated", page);
+    gather_by_key(&f);
+    show_step(&f);
+    draw_key_by_step(&f);
+    must("seed write", fortuna_keyed_write(&f, page, SEED).number);
+    store("seed for the next start", page);
+}
+
+/* What an instrument may bring from one emptying to the next: 16 events. The first comes with the 33rd event, and then
+   one with every 32nd: so all three must be able to bring 33 together, and these may bring 48. */
+enum { KEYED_ALLOWANCE = 16 * (HEADER + READINGS) };
+
+typedef struct {
+    fortuna_keyed state;
+    fortuna_quota quotas[INSTRUMENTS];
+} keyed_metered;
+
+static void send_by_key(keyed_metered *m, instrument *from)
+{
+    uint8_t data[READINGS];
+    take_readings(from->number, next_turn(from), data);
+    const fortuna_answer a = fortuna_keyed_metered_event(&m->state, m->quotas, INSTRUMENTS, from->number, data,
+                                                         sizeof data);
+    count_event(from, a.number);
+}
+
+/* In each turn the tiltmeter sends many events, and the others one each. */
+static void send_round_by_key(keyed_metered *m, instrument *seismometer, instrument *tiltmeter, instrument *barometer)
+{
+    for (int turn = 0; turn < POOLS; turn++) {
+        for (int i = 0; i < FLOOD; i++)
+            send_by_key(m, tiltmeter);
+        send_by_key(m, seismometer);
+        send_by_key(m, barometer);
+    }
+}
+
+/* A power-up with pools chosen by key and a list of quotas, which every call gets. */
+static void flood_keyed(uint8_t page[SEED])
+{
+    uint8_t key[KEY];
+    instrument all[INSTRUMENTS];
+    keyed_metered m = {.state = fortuna_keyed_new(scheduler_key)};
+    memcpy(all, fresh_instruments, sizeof all);
+    list_quotas(m.quotas, KEYED_ALLOWANCE);
+    printf("a tiltmeter floods, pools chosen by key\n");
+    must("seed update", fortuna_keyed_metered_update(&m.state, m.quotas, INSTRUMENTS, page, SEED).number);
+    store("seed updated", page);
+    send_round_by_key(&m, &all[0], &all[1], &all[2]);
+    show_spent(m.quotas, all);
+    const fortuna_answer a = fortuna_keyed_metered_request(&m.state, m.quotas, INSTRUMENTS, key, sizeof key);
+    show_key_by_step(m.state.step, a.number, key);
+    must("seed write", fortuna_keyed_metered_write(&m.state, m.quotas, INSTRUMENTS, page, SEED).number);
+    store("seed for the next start", page);
+}
+
 int main(void)
 {
     show_edition();
@@ -634,5 +781,7 @@ int main(void)
     start_twice();
     flood(flash);
     run_permanent(flash);
+    run_keyed(flash);
+    flood_keyed(flash);
     return 0;
 }

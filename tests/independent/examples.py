@@ -1,17 +1,20 @@
 #!/usr/bin/env python3
 """What the programs in examples/ must print, worked out by station.py, for the ciphers by aes256.py, for the log by
-logbook.py, for converted logs by convert.py, for the permanent station's keys by ctr_drbg.py, and for the reading that
-fails a health test by health.py, from all readings of the source at once. Which of the tiltmeter's events are taken
-follows from division: its allowance by what an event takes of it. The events behind a pool's string are those that it
-is made of here: no string is read.
+logbook.py, for converted logs by convert.py, for the permanent station's keys by ctr_drbg.py, for pools chosen by key
+by keyed.py, and for the reading that fails a health test by health.py, from all readings of the source at once. Which
+of the tiltmeter's events are taken follows from division: its allowance by what an event takes of it. With pools chosen
+by key an event is in the key once the step is made that empties its pool next. The events behind a pool's string are
+those that it is made of here: no string is read.
 
     tests/independent/examples.py                  prints it
     tests/independent/examples.py --check FILE     exits 1 where FILE differs"""
 import io
 import sys
+from collections import namedtuple
 
 import ctr_drbg
 import generator
+import keyed
 import logbook
 import station
 from aes256 import encrypt
@@ -38,6 +41,9 @@ ARCHIVE = b"010700A1B2\n02000000640010\n01FF1F3C\n"
 HUB = b"05000700A1B2\n02000000640010\n050384003C\n04000000C8\n"
 STRING_EVENTS = ((7, bytes.fromhex("A1B2")), (900, bytes.fromhex("05")))  # source and data
 NAME, LINK = b"permanent station 12", b"link to the observatory"
+SCHEDULER_KEY = b"scheduler key made in the works".ljust(32, b"\0")
+KEYED_EVENTS = 16  # that an instrument's allowance is for, where pools are chosen by key
+Quota = namedtuple("Quota", "source allowance spent")
 
 
 def readings(source, turn):
@@ -140,11 +146,11 @@ def works_lines():
     yield key_line(1000, station.request(updated.next, 1000, bytes(32)))
 
 
-def tally_lines(sent, taken, spent):
+def tally_lines(sent, taken, spent, allowance=ALLOWANCE):
     """Of the instruments, each with the events that it sent, those taken and the bytes that these took of its quota."""
     for name in INSTRUMENTS:
         refused = f"{sent[name] - taken[name]} refused"
-        yield f"{name}: {taken[name]} events taken, {refused}, {spent[name]} of {ALLOWANCE} bytes spent"
+        yield f"{name}: {taken[name]} events taken, {refused}, {spent[name]} of {allowance} bytes spent"
 
 
 def flood_lines(seed):
@@ -184,7 +190,8 @@ def network_key_line(request, answer):
 
 
 def permanent_lines(seed):
-    """Of the power-up of a permanent station: entropy input from Fortuna, keys from CTR_DRBG."""
+    """Of the power-up of a permanent station: entropy input from Fortuna, keys from CTR_DRBG. Returns the seed of the
+    next power-up."""
     drbg = ctr_drbg.CtrDrbg()
     yield "a permanent station"
     updated = station.update(station.FRESH, 10, seed)
@@ -199,6 +206,76 @@ def permanent_lines(seed):
     yield network_key_line(2, second)
     reseeded = drbg.reseed(second.next, station.request(entropy.next, 2000, bytes(48)).buffer, b"")
     yield network_key_line(1, drbg.generate(reseeded.next, 32, b""))
+    return updated.buffer
+
+
+class KeyedRun:
+    """Calls with pools chosen by key, each on the state and the quotas, or none, that the last one left."""
+
+    def __init__(self, quotas=None):
+        self.scheduler = keyed.Keyed()
+        self.state = keyed.fresh(SCHEDULER_KEY)
+        self.quotas = quotas
+        self.emptied = 0
+
+    def call(self, name, *arguments):
+        """The number, and the bytes lent as they are left."""
+        answer = self.scheduler.call(name, self.state, self.quotas, *arguments)
+        self.state, self.quotas = answer.next, answer.quotas
+        self.emptied += answer.emptied
+        return answer.number, answer.lent
+
+    def done(self, name, *arguments):
+        number, lent = self.call(name, *arguments)
+        assert number == 0, (name, number)
+        return lent
+
+    def event(self, name, turn):
+        source = INSTRUMENTS[name]
+        return self.call("event", source, bytes(readings(source, turn)))[0]
+
+    def key_line(self):
+        return f"key after {self.state.step} events: {self.done('request', bytes(32)).hex()}"
+
+
+def keyed_lines(seed):
+    """Of the power-up with pools chosen by key. Returns the seed of the next."""
+    run = KeyedRun()
+    yield "pools chosen by key"
+    yield f"key after 0 events: refused, {run.call('request', bytes(32))[0]} (no seed and too little noise)"
+    page = run.done("update", seed)
+    yield f"seed updated: {page.hex()}"
+    assert not any(run.event(name, turn) for turn in range(TURNS) for name in INSTRUMENTS)
+    steps = run.state.step
+    picked = [run.scheduler.input_pool(SCHEDULER_KEY, step) for step in range(steps + 1)]
+    entered = sum(keyed.next_emptying(picked[step], step) < steps for step in range(steps))
+    yield f"{steps} events taken, pools emptied {run.emptied}, events in the key {entered}"
+    assert steps == 192  # 32 * 2 divides it, and 32 * 4 does not
+    yield f"step {steps}: event to pool {picked[steps]}, empties pool 1"
+    yield run.key_line()
+    page = run.done("write", page)
+    yield f"seed for the next start: {page.hex()}"
+    return page
+
+
+def keyed_flood_lines(seed):
+    """Of the power-up at which a tiltmeter floods with pools chosen by key: in each turn it sends the first events."""
+    allowance = KEYED_EVENTS * COST
+    run = KeyedRun(tuple(Quota(source, allowance, 0) for source in INSTRUMENTS.values()))
+    yield "a tiltmeter floods, pools chosen by key"
+    page = run.done("update", seed)
+    yield f"seed updated: {page.hex()}"
+    sent = dict.fromkeys(INSTRUMENTS, 0)
+    taken = dict.fromkeys(INSTRUMENTS, 0)
+    for name in 32 * (["tiltmeter"] * FLOOD + ["seismometer", "barometer"]):
+        number = run.event(name, sent[name])
+        if number == 39 and sent[name] == taken[name]:
+            yield f"{name}, event {sent[name] + 1}: refused, 39 (more than the source's allowance)"
+        sent[name] += 1
+        taken[name] += number == 0
+    yield from tally_lines(sent, taken, {n: q.spent for n, q in zip(INSTRUMENTS, run.quotas)}, allowance)
+    yield run.key_line()
+    yield f"seed for the next start: {run.done('write', page).hex()}"
 
 
 def lines():
@@ -231,7 +308,9 @@ def lines():
     yield from string_lines()
     yield from works_lines()
     page = yield from flood_lines(written.buffer)
-    yield from permanent_lines(page)
+    page = yield from permanent_lines(page)
+    page = yield from keyed_lines(page)
+    yield from keyed_flood_lines(page)
 
 
 def main(args):
