@@ -10,7 +10,6 @@ those that it is made of here: no string is read.
     tests/independent/examples.py --check FILE     exits 1 where FILE differs"""
 import io
 import sys
-from collections import namedtuple
 
 import ctr_drbg
 import generator
@@ -43,7 +42,6 @@ STRING_EVENTS = ((7, bytes.fromhex("A1B2")), (900, bytes.fromhex("05")))  # sour
 NAME, LINK = b"permanent station 12", b"link to the observatory"
 SCHEDULER_KEY = b"scheduler key made in the works".ljust(32, b"\0")
 KEYED_EVENTS = 16  # that an instrument's allowance is for, where pools are chosen by key
-Quota = namedtuple("Quota", "source allowance spent")
 
 
 def readings(source, turn):
@@ -261,7 +259,7 @@ def keyed_lines(seed):
 def keyed_flood_lines(seed):
     """Of the power-up at which a tiltmeter floods with pools chosen by key: in each turn it sends the first events."""
     allowance = KEYED_EVENTS * COST
-    run = KeyedRun(tuple(Quota(source, allowance, 0) for source in INSTRUMENTS.values()))
+    run = KeyedRun(tuple(logbook.Quota(source, allowance, 0) for source in INSTRUMENTS.values()))
     yield "a tiltmeter floods, pools chosen by key"
     page = run.done("update", seed)
     yield f"seed updated: {page.hex()}"

@@ -1,6 +1,6 @@
-//! A safe wrapper of the proved Fortuna, of the health tests of its noise sources, of NIST's CTR_DRBG, of the converter
-//! of call logs, and of the reader of the events behind a pool. include/fortuna.h says what each call does, and how
-//! much stack it needs.
+//! A safe wrapper of the proved Fortuna, of Fortuna with its pools chosen by key, of the health tests of its noise
+//! sources, of NIST's CTR_DRBG, of the converter of call logs, and of the reader of the events behind a pool.
+//! include/fortuna.h says what each call does, and how much stack it needs.
 use std::fmt;
 use std::iter::FusedIterator;
 use std::mem::{offset_of, size_of};
@@ -35,6 +35,7 @@ pub enum Refusal {
     SeedingNeeded = 42,
     LargeSource = 43,
     NoEvent = 44,
+    StepsSpent = 45,
     NoRoom = 46,
 }
 
@@ -66,6 +67,7 @@ impl Refusal {
             42 => Refusal::SeedingNeeded,
             43 => Refusal::LargeSource,
             44 => Refusal::NoEvent,
+            45 => Refusal::StepsSpent,
             46 => Refusal::NoRoom,
             _ => unreachable!("the header has no number {number} for these calls"),
         }
@@ -102,6 +104,7 @@ impl Refusal {
             Refusal::SeedingNeeded => "never seeded, or 2^48 requests since",
             Refusal::LargeSource => "a source above 255, which frame 01 can't carry",
             Refusal::NoEvent => "no whole event starts there, or it is past the end",
+            Refusal::StepsSpent => "all 2^64 - 1 steps are made",
             Refusal::NoRoom => "no room for the converted line",
         }
     }
@@ -248,6 +251,18 @@ struct State {
 }
 
 #[repr(C)]
+struct KeyedState {
+    generator: Generator,
+    pools: [Pool; 32],
+    last_reseed: u32,
+    reseed_count: u32,
+    reseeded: bool,
+    key_requests: u16,
+    scheduler_key: [u8; 32],
+    step: u64,
+}
+
+#[repr(C)]
 struct Answer {
     number: u32,
     emptied: u32,
@@ -325,6 +340,9 @@ struct EntryAnswer {
 const _: () = assert!(size_of::<Pool>() == 104 && size_of::<State>() == 3392);
 const _: () = assert!(size_of::<Answer>() == 8 && size_of::<Draw>() == 16);
 const _: () = assert!(offset_of!(State, key_requests) == 3386);
+const _: () = assert!(size_of::<KeyedState>() == 3432 && offset_of!(KeyedState, step) == 3424);
+const _: () = assert!(offset_of!(KeyedState, key_requests) == 3386);
+const _: () = assert!(offset_of!(KeyedState, scheduler_key) == 3388);
 const _: () = assert!(size_of::<Quota>() == 12 && offset_of!(Quota, spent) == 8);
 const _: () = assert!(size_of::<HealthState>() == 20 && offset_of!(HealthState, seen) == 16);
 const _: () = assert!(size_of::<HealthAnswer>() == 16 && offset_of!(HealthAnswer, place) == 8);
@@ -405,6 +423,47 @@ extern "C" {
         list: *mut u16,
         length: usize,
     ) -> Answer;
+    fn fortuna_keyed_new(scheduler_key: *const [u8; 32]) -> KeyedState;
+    fn fortuna_keyed_event(
+        state: *mut KeyedState,
+        source: u32,
+        data: *const u8,
+        length: usize,
+    ) -> Answer;
+    fn fortuna_keyed_request(state: *mut KeyedState, out: *mut u8, length: usize) -> Answer;
+    fn fortuna_keyed_update(state: *mut KeyedState, seed: *mut u8, length: usize) -> Answer;
+    fn fortuna_keyed_write(state: *mut KeyedState, seed: *mut u8, length: usize) -> Answer;
+    fn fortuna_keyed_metered_event(
+        state: *mut KeyedState,
+        quotas: *mut Quota,
+        records: usize,
+        source: u32,
+        data: *const u8,
+        length: usize,
+    ) -> Answer;
+    fn fortuna_keyed_metered_request(
+        state: *mut KeyedState,
+        quotas: *const Quota,
+        records: usize,
+        out: *mut u8,
+        length: usize,
+    ) -> Answer;
+    fn fortuna_keyed_metered_update(
+        state: *mut KeyedState,
+        quotas: *const Quota,
+        records: usize,
+        seed: *mut u8,
+        length: usize,
+    ) -> Answer;
+    fn fortuna_keyed_metered_write(
+        state: *mut KeyedState,
+        quotas: *const Quota,
+        records: usize,
+        seed: *mut u8,
+        length: usize,
+    ) -> Answer;
+    fn fortuna_keyed_input(scheduler_key: *const [u8; 32], step: u64) -> u32;
+    fn fortuna_keyed_output(step: u64) -> u32;
     fn fortuna_log(log: *const u8, length: usize, out: *mut u8, room: usize) -> usize;
     fn fortuna_convert(
         log: *const u8,
@@ -459,9 +518,9 @@ pub struct Fortuna {
     state: State,
 }
 
-// In each call below, those of Health and CtrDrbg too, a pointer and the length after it are those of one slice, which
-// lasts for the call. One that is written overlaps no other, and none overlaps the state. The pointer of an empty slice
-// is not null either.
+// In each call below, those of Keyed, Health and CtrDrbg too, a pointer and the length after it are those of one slice,
+// which lasts for the call. One that is written overlaps no other, and none overlaps the state. The pointer of an empty
+// slice is not null either.
 impl Fortuna {
     /// Unseeded, with empty pools.
     #[allow(clippy::new_without_default)]
@@ -601,6 +660,114 @@ impl Fortuna {
         let answer =
             unsafe { fortuna_metered_shuffle(&mut self.state, quotas, records, clock, at, length) };
         drawn(answer.number, answer.emptied)
+    }
+}
+
+/// Fortuna with its pools chosen by key, for noise bursts that follow the round of pools: no event names a pool, and no
+/// call takes a clock. It is not `Clone`: two copies would give the same bytes. As with `Fortuna` one task owns it.
+///
+/// **Update the seed first.** An empty pool is emptied too, so that from the 33rd event on requests are answered, even
+/// where nothing unknown went in. Where there is no seed (`BlankSeed`), draw nothing until enough noise is in the key:
+/// `input` and `output` tell which events are, as in src/main.rs.
+///
+/// The scheduler key is a secret, made by a generator of its own, another for each device, and kept: each start takes
+/// it again. The header says more. There are no draws and no shuffles: for these keep a `Fortuna` beside it.
+pub struct Keyed {
+    state: KeyedState,
+}
+
+impl Keyed {
+    /// The fresh start: unseeded, with empty pools, at step 0.
+    pub fn new(scheduler_key: &[u8; 32]) -> Keyed {
+        Keyed {
+            state: unsafe { fortuna_keyed_new(scheduler_key) },
+        }
+    }
+
+    /// The pool that the step picks gains 1 to 32 bytes of noise from a source. Then the step may empty a pool into the
+    /// key: gives how many, 0 or 1. `StepsSpent`: 2^64 - 1 events were taken.
+    pub fn event(&mut self, source: u32, data: &[u8]) -> Result<u32, Refusal> {
+        let (at, length) = (data.as_ptr(), data.len());
+        result(unsafe { fortuna_keyed_event(&mut self.state, source, at, length) })
+    }
+
+    /// Fills `out`. It empties no pool, and neither does a seed call.
+    pub fn request(&mut self, out: &mut [u8]) -> Result<(), Refusal> {
+        let (at, length) = (out.as_mut_ptr(), out.len());
+        noted(unsafe { fortuna_keyed_request(&mut self.state, at, length) }.number)
+    }
+
+    /// The seed goes in, and its successor stands in its place. Store that before anything is drawn.
+    pub fn update(&mut self, seed: &mut [u8; 64]) -> Result<(), Refusal> {
+        let (at, length) = (seed.as_mut_ptr(), seed.len());
+        noted(unsafe { fortuna_keyed_update(&mut self.state, at, length) }.number)
+    }
+
+    /// A seed for the next start, over any bytes.
+    pub fn write(&mut self, seed: &mut [u8; 64]) -> Result<(), Refusal> {
+        let (at, length) = (seed.as_mut_ptr(), seed.len());
+        noted(unsafe { fortuna_keyed_write(&mut self.state, at, length) }.number)
+    }
+
+    /// The step number: how many events were taken.
+    pub fn step(&self) -> u64 {
+        self.state.step
+    }
+
+    /// How stale the key is: the number of accepted requests, seed calls included, since the last step that emptied a
+    /// pool or the fresh start, stopping at 65,535.
+    pub fn key_requests(&self) -> u16 {
+        self.state.key_requests
+    }
+
+    /// The pool, 0 to 31, that the event at a step goes to.
+    pub fn input(scheduler_key: &[u8; 32], step: u64) -> u32 {
+        unsafe { fortuna_keyed_input(scheduler_key, step) }
+    }
+
+    /// The pool that a step empties; `None` where it empties none.
+    pub fn output(step: u64) -> Option<u32> {
+        let pool = unsafe { fortuna_keyed_output(step) };
+        (pool < 32).then_some(pool)
+    }
+}
+
+/// The same with quotas. An event that empties a pool sets all spent to 0, its own source's too; a request and a seed
+/// call only look at the list. Allowances must let the sources bring 33 events from a fresh start and then 32 from one
+/// emptying to the next: if all are spent before, no pool is emptied any more, and every event is `OverAllowance`.
+impl Keyed {
+    pub fn metered_event(
+        &mut self,
+        quotas: &mut [Quota],
+        source: u32,
+        data: &[u8],
+    ) -> Result<u32, Refusal> {
+        let (list, records) = (quotas.as_mut_ptr(), quotas.len());
+        let (at, length) = (data.as_ptr(), data.len());
+        result(unsafe {
+            fortuna_keyed_metered_event(&mut self.state, list, records, source, at, length)
+        })
+    }
+
+    pub fn metered_request(&mut self, quotas: &[Quota], out: &mut [u8]) -> Result<(), Refusal> {
+        let (list, records) = (quotas.as_ptr(), quotas.len());
+        let (at, length) = (out.as_mut_ptr(), out.len());
+        let state = &mut self.state;
+        noted(unsafe { fortuna_keyed_metered_request(state, list, records, at, length) }.number)
+    }
+
+    pub fn metered_update(&mut self, quotas: &[Quota], seed: &mut [u8; 64]) -> Result<(), Refusal> {
+        let (list, records) = (quotas.as_ptr(), quotas.len());
+        let (at, length) = (seed.as_mut_ptr(), seed.len());
+        let state = &mut self.state;
+        noted(unsafe { fortuna_keyed_metered_update(state, list, records, at, length) }.number)
+    }
+
+    pub fn metered_write(&mut self, quotas: &[Quota], seed: &mut [u8; 64]) -> Result<(), Refusal> {
+        let (list, records) = (quotas.as_ptr(), quotas.len());
+        let (at, length) = (seed.as_mut_ptr(), seed.len());
+        let state = &mut self.state;
+        noted(unsafe { fortuna_keyed_metered_write(state, list, records, at, length) }.number)
     }
 }
 

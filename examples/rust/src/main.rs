@@ -3,16 +3,18 @@
 //! polling list come out. One source gets stuck: the health tests tell before its stuck readings
 //! become an event. Another digitiser is fresh from the works: its page of flash memory was
 //! never written, so it waits for noise before it has a seed. At a later power-up a tiltmeter
-//! floods: a list of quotas turns back what is too much, and the seismometer goes on. At the last
-//! one the digitiser is a permanent station, whose network wants keys from CTR_DRBG. A log of calls
-//! is run, logs are converted from frame 01 to 05 and back, and an analyst lists the events behind a
-//! pool. Noise, clock and flash pages are stand-ins, so that each run prints the same.
+//! floods: a list of quotas turns back what is too much, and the seismometer goes on. At another
+//! one the digitiser is a permanent station, whose network wants keys from CTR_DRBG. At the last two
+//! its pools are chosen by key, since its noise comes in bursts that follow the round of pools. A log
+//! of calls is run, logs are converted from frame 01 to 05 and back, and an analyst lists the events
+//! behind a pool. Noise, clock, keys that are kept and flash pages are stand-ins, so that each run
+//! prints the same.
 //!
 //! One call at a time on a state: `main` owns it, and each call borrows it alone. Noise from interrupts or other
 //! threads would come through a queue.
 use fortuna::{
     convert, events, run_log, sha_d256, Aes256, Aes256Bytewise, CtrDrbg, Drawn, EventFrame,
-    Fortuna, Health, NotDrawn, NotPassed, Quota, Refusal,
+    Fortuna, Health, Keyed, NotDrawn, NotPassed, Quota, Refusal,
 };
 
 /// A source may be any number up to 65,535.
@@ -35,6 +37,11 @@ const STATIONS: [u16; 8] = [1, 2, 3, 4, 5, 6, 7, 8];
 /// each goes round the pools, it brings 35 of the 64 bytes that pool 0 needs for a reseed, and another must bring the
 /// rest.
 const ALLOWANCE: u32 = POOLS * (3 + READINGS as u32);
+/// The same from one emptying to the next where pools are chosen by key: 16 events. The first emptying comes with the
+/// 33rd event, and then one with every 32nd: so all three must be able to bring 33 together, and these may bring 48.
+const KEYED_ALLOWANCE: u32 = 16 * (3 + READINGS as u32);
+/// Stands in for the 32 bytes that were made in the works by a generator of its own, and are kept beside the seed.
+const SCHEDULER_KEY: &[u8; 32] = b"scheduler key made in the works\0";
 /// The events that the tiltmeter sends where others send one.
 const FLOOD: u32 = 10;
 
@@ -349,6 +356,55 @@ const fn instrument(name: &'static str, number: u32) -> Instrument {
     }
 }
 
+const fn instruments() -> [Instrument; 3] {
+    [
+        instrument("seismometer", 1),
+        instrument("tiltmeter", 4),
+        instrument("barometer", 900),
+    ]
+}
+
+impl Instrument {
+    fn next_turn(&self) -> u32 {
+        self.taken + self.refused
+    }
+
+    fn data(&self) -> [u8; READINGS] {
+        readings(self.number, self.next_turn()).map(|r| r as u8)
+    }
+
+    /// Too much is no fault of the device: the event is dropped, and after the next pool reseed others are taken.
+    fn count<T>(&mut self, answer: Result<T, Refusal>) -> Result<(), Refusal> {
+        match answer {
+            Err(refusal @ Refusal::OverAllowance) => {
+                if self.refused == 0 {
+                    println!("{}, event {}: {refusal}", self.name, self.next_turn() + 1);
+                }
+                self.refused += 1;
+            }
+            answer => {
+                answer?;
+                self.taken += 1;
+            }
+        }
+        Ok(())
+    }
+}
+
+/// By rising sources, which makes the check of the list quicker.
+fn list_quotas(allowance: u32) -> [Quota; 3] {
+    instruments().map(|from| Quota::new(from.number, allowance))
+}
+
+fn show_spent(quotas: &[Quota; 3], instruments: &[Instrument; 3]) {
+    for (from, quota) in instruments.iter().zip(quotas) {
+        println!(
+            "{}: {} events taken, {} refused, {} of {} bytes spent",
+            from.name, from.taken, from.refused, quota.spent, quota.allowance
+        );
+    }
+}
+
 /// The station with its list of quotas. Every call gets the list, those that draw too: without it an event is charged
 /// to nobody, and a pool reseed clears nothing.
 struct Metered {
@@ -357,38 +413,22 @@ struct Metered {
 }
 
 impl Metered {
-    /// By rising sources, which makes the check of the list quicker.
-    fn new(instruments: &[Instrument; 3]) -> Metered {
+    fn new() -> Metered {
         Metered {
             f: Fortuna::new(),
-            quotas: instruments
-                .each_ref()
-                .map(|from| Quota::new(from.number, ALLOWANCE)),
+            quotas: list_quotas(ALLOWANCE),
         }
     }
 
-    fn event(&mut self, number: u32, turn: u32, pool: u32) -> Result<(), Refusal> {
-        let data = readings(number, turn).map(|r| r as u8);
-        self.f.metered_event(&mut self.quotas, number, pool, &data)
+    fn event(&mut self, from: &Instrument, pool: u32) -> Result<(), Refusal> {
+        self.f
+            .metered_event(&mut self.quotas, from.number, pool, &from.data())
     }
 
-    /// An instrument's next event, for the pool after that of its last one taken. Too much is no fault of the device:
-    /// the event is dropped, and after the next pool reseed others are taken.
+    /// An instrument's next event, for the pool after that of its last one taken.
     fn send_event(&mut self, from: &mut Instrument) -> Result<(), Refusal> {
-        let turn = from.taken + from.refused;
-        match self.event(from.number, turn, from.taken % POOLS) {
-            Err(refusal @ Refusal::OverAllowance) => {
-                if from.refused == 0 {
-                    println!("{}, event {}: {refusal}", from.name, turn + 1);
-                }
-                from.refused += 1;
-            }
-            answer => {
-                answer?;
-                from.taken += 1;
-            }
-        }
-        Ok(())
+        let answer = self.event(from, from.taken % POOLS);
+        from.count(answer)
     }
 
     fn send_flood(&mut self, from: &mut Instrument) -> Result<(), Refusal> {
@@ -404,15 +444,6 @@ impl Metered {
             self.send_event(barometer)?;
         }
         Ok(())
-    }
-
-    fn show(&self, instruments: &[Instrument; 3]) {
-        for (from, quota) in instruments.iter().zip(&self.quotas) {
-            println!(
-                "{}: {} events taken, {} refused, {} of {} bytes spent",
-                from.name, from.taken, from.refused, quota.spent, quota.allowance
-            );
-        }
     }
 
     /// The calls that draw, each with the list. The first makes the pool reseed, after which nothing is spent.
@@ -433,24 +464,19 @@ impl Metered {
 
 /// A power-up from the seed that the last one left, with a list from the first call to the last.
 fn flood(page: &mut [u8; 64]) -> Result<(), Refusal> {
-    let mut instruments = [
-        instrument("seismometer", 1),
-        instrument("tiltmeter", 4),
-        instrument("barometer", 900),
-    ];
-    let mut m = Metered::new(&instruments);
+    let (mut m, mut instruments) = (Metered::new(), instruments());
     println!("a tiltmeter floods");
     m.f.metered_update(&mut m.quotas, 10, page)?;
     store("seed updated", page);
     m.send_round(&mut instruments)?;
     // a source that nobody put on the list
-    if let Err(refusal) = m.event(7, 0, 0) {
+    if let Err(refusal) = m.event(&instrument("stranger", 7), 0) {
         println!("event of source 7: {refusal}");
     }
-    m.show(&instruments);
+    show_spent(&m.quotas, &instruments);
     m.draw(1000)?;
     m.send_flood(&mut instruments[1])?; // taken again, after the pool reseed
-    m.show(&instruments);
+    show_spent(&m.quotas, &instruments);
     m.f.metered_write(&mut m.quotas, 2000, page)?;
     store("seed for the next start", page);
     Ok(())
@@ -499,6 +525,100 @@ fn run_permanent(page: &mut [u8; 64]) -> Result<(), Refusal> {
     draw_network_key(&mut d, &[])
 }
 
+/// How many of a fresh start's first events are in the key: those of a pool, once a step empties it. Without a stored
+/// seed a device would draw nothing before this is enough by the estimate of its sources.
+fn events_entered(steps: u64) -> u32 {
+    let (mut waiting, mut entered) = ([0; POOLS as usize], 0);
+    for step in 0..steps {
+        waiting[Keyed::input(SCHEDULER_KEY, step) as usize] += 1;
+        if let Some(pool) = Keyed::output(step) {
+            entered += std::mem::take(&mut waiting[pool as usize]);
+        }
+    }
+    entered
+}
+
+/// Each instrument sends an event in each turn. Nobody names a pool. Health tests are left out here too: a device has
+/// them.
+fn gather_by_key(k: &mut Keyed) -> Result<(), Refusal> {
+    let mut emptied = 0;
+    for turn in 0..TURNS {
+        for from in instruments() {
+            let data = readings(from.number, turn).map(|r| r as u8);
+            emptied += k.event(from.number, &data)?;
+        }
+    }
+    println!(
+        "{} events taken, pools emptied {emptied}, events in the key {}",
+        k.step(),
+        events_entered(k.step())
+    );
+    Ok(())
+}
+
+/// What the next event does, for whoever services the digitiser. bin/steps prints the same.
+fn show_step(k: &Keyed) {
+    let pool = Keyed::input(SCHEDULER_KEY, k.step());
+    let empties = Keyed::output(k.step()).map(|out| format!(", empties pool {out}"));
+    println!(
+        "step {}: event to pool {pool}{}",
+        k.step(),
+        empties.unwrap_or_default()
+    );
+}
+
+fn show_key_by_step(step: u64, answer: Result<(), Refusal>, key: &[u8]) {
+    match answer {
+        Ok(()) => println!("key after {step} events: {}", hexadecimal(key)),
+        Err(refusal) => println!("key after {step} events: {refusal}"),
+    }
+}
+
+fn draw_key_by_step(k: &mut Keyed) {
+    let mut key = [0; 32];
+    let answer = k.request(&mut key);
+    show_key_by_step(k.step(), answer, &key);
+}
+
+/// A power-up with pools chosen by key. The seed goes in first: from the 33rd event on a key would be drawn without it
+/// too, whatever the noise was worth.
+fn run_keyed(page: &mut [u8; 64]) -> Result<(), Refusal> {
+    let mut k = Keyed::new(SCHEDULER_KEY);
+    println!("pools chosen by key");
+    draw_key_by_step(&mut k);
+    k.update(page)?;
+    store("seed updated", page);
+    gather_by_key(&mut k)?;
+    show_step(&k);
+    draw_key_by_step(&mut k);
+    k.write(page)?;
+    store("seed for the next start", page);
+    Ok(())
+}
+
+/// A power-up with pools chosen by key and a list of quotas, which every call gets. In each turn the tiltmeter sends
+/// many events, and the others one each.
+fn flood_keyed(page: &mut [u8; 64]) -> Result<(), Refusal> {
+    let (mut k, mut quotas) = (Keyed::new(SCHEDULER_KEY), list_quotas(KEYED_ALLOWANCE));
+    let (mut instruments, mut key) = (instruments(), [0; 32]);
+    println!("a tiltmeter floods, pools chosen by key");
+    k.metered_update(&quotas, page)?;
+    store("seed updated", page);
+    for _ in 0..POOLS {
+        for i in [1; FLOOD as usize].into_iter().chain([0, 2]) {
+            let from = &mut instruments[i];
+            let answer = k.metered_event(&mut quotas, from.number, &from.data());
+            from.count(answer)?;
+        }
+    }
+    show_spent(&quotas, &instruments);
+    let answer = k.metered_request(&quotas, &mut key);
+    show_key_by_step(k.step(), answer, &key);
+    k.metered_write(&quotas, page)?;
+    store("seed for the next start", page);
+    Ok(())
+}
+
 fn main() -> Result<(), Refusal> {
     show_edition()?;
     show_ciphers();
@@ -526,5 +646,7 @@ fn main() -> Result<(), Refusal> {
     question_key();
     start_twice()?;
     flood(&mut flash)?;
-    run_permanent(&mut flash)
+    run_permanent(&mut flash)?;
+    run_keyed(&mut flash)?;
+    flood_keyed(&mut flash)
 }
