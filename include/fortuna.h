@@ -50,14 +50,14 @@
        fortuna_metered_random_below    53,248
        fortuna_metered_shuffle         64,512
        fortuna_keyed_new               12,288
-       fortuna_keyed_event             30,720
-       fortuna_keyed_request           23,552
-       fortuna_keyed_update            23,552
-       fortuna_keyed_write             23,552
-       fortuna_keyed_metered_event     30,720
-       fortuna_keyed_metered_request   23,552
-       fortuna_keyed_metered_update    23,552
-       fortuna_keyed_metered_write     23,552
+       fortuna_keyed_event             26,624
+       fortuna_keyed_request           20,480
+       fortuna_keyed_update            20,480
+       fortuna_keyed_write             20,480
+       fortuna_keyed_metered_event     33,792
+       fortuna_keyed_metered_request   20,480
+       fortuna_keyed_metered_update    20,480
+       fortuna_keyed_metered_write     20,480
        fortuna_keyed_input              5,120
        fortuna_keyed_output               256
        fortuna_log                    270,336
