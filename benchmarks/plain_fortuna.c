@@ -200,11 +200,16 @@ static uint32_t state_refusal(const plain_state *s, uint32_t clock, uint64_t gro
     return 0;
 }
 
+static void serve(plain_state *s, uint8_t *out, size_t length)
+{
+    generate(s, out, length);
+    if (s->key_requests < UINT16_MAX) s->key_requests++;
+}
+
 static uint32_t random_data(plain_state *s, uint32_t clock, uint8_t *out, size_t length)
 {
     uint32_t emptied = due(s, clock) ? pool_reseed(s, clock) : 0;
-    generate(s, out, length);
-    if (s->key_requests < UINT16_MAX) s->key_requests++;
+    serve(s, out, length);
     return emptied;
 }
 
@@ -252,15 +257,25 @@ static uint32_t event_input(uint32_t source, uint32_t pool, size_t length)
     return length == 0 || length > PLAIN_DATA ? 13 : 0;
 }
 
+static bool full(const plain_pool *p, size_t length)
+{
+    return p->length + PLAIN_HEADER + length > max_pool_length;
+}
+
+static void gain(plain_pool *p, uint32_t source, const uint8_t *data, size_t length)
+{
+    uint8_t bytes[PLAIN_HEADER + PLAIN_DATA] = {(uint8_t)source, (uint8_t)(source >> 8), (uint8_t)length};
+    memcpy(bytes + PLAIN_HEADER, data, length);
+    append(p, bytes, PLAIN_HEADER + length);
+}
+
 uint32_t plain_event(plain_state *s, uint32_t source, uint32_t pool, const uint8_t *data, size_t length)
 {
     uint32_t number = event_input(source, pool, length);
     if (number != 0) return number;
     if (malformed(s)) return 21;
-    if (s->pools[pool].length + PLAIN_HEADER + length > max_pool_length) return 22;
-    uint8_t bytes[PLAIN_HEADER + PLAIN_DATA] = {(uint8_t)source, (uint8_t)(source >> 8), (uint8_t)length};
-    memcpy(bytes + PLAIN_HEADER, data, length);
-    append(&s->pools[pool], bytes, PLAIN_HEADER + length);
+    if (full(&s->pools[pool], length)) return 22;
+    gain(&s->pools[pool], source, data, length);
     return 0;
 }
 
@@ -316,5 +331,106 @@ uint32_t plain_metered_request(plain_state *s, plain_quota *quotas, size_t recor
     if (malformed_quotas(quotas, records)) return 37;
     uint32_t number = plain_request(s, clock, out, length, emptied);
     for (size_t i = 0; *emptied > 0 && i < records; i++) quotas[i].spent = 0;
+    return number;
+}
+
+/* ---- pools chosen by key */
+
+void plain_keyed_new(plain_keyed *k, const uint8_t scheduler_key[32])
+{
+    plain_new(&k->station);
+    memcpy(k->scheduler_key, scheduler_key, sizeof k->scheduler_key);
+    k->step = 0;
+}
+
+/* The pool that the step picks: by AES-256 of the step number, least significant byte first. */
+static uint32_t input_pool(const plain_keyed *k)
+{
+    symmetric_key schedule;
+    uint8_t block[16] = {0};
+    for (int i = 0; i < 8; i++) block[i] = (uint8_t)(k->step >> 8 * i);
+    aes_enc_setup(k->scheduler_key, sizeof k->scheduler_key, 0, &schedule);
+    aes_enc_ecb_encrypt(block, block, &schedule);
+    return block[0] % PLAIN_POOLS;
+}
+
+static bool empties(uint64_t step)
+{
+    return step != 0 && step % 32 == 0;
+}
+
+/* The pool that such a step empties: the largest i up to 31 with which 32 * 2^i divides it. */
+static uint32_t output_pool(uint64_t step)
+{
+    int i = __builtin_ctzll(step) - 5;
+    return i < PLAIN_POOLS ? (uint32_t)i : PLAIN_POOLS - 1;
+}
+
+/* Where reseeded is clear, a last_reseed or a reseed_count that is not 0 is malformed in the station too. */
+static bool keyed_malformed(const plain_keyed *k)
+{
+    return malformed(&k->station) || k->station.reseeded;
+}
+
+static void empty_into_key(plain_state *s, plain_pool *p)
+{
+    uint8_t digest[32];
+    pool_digest(p, digest);
+    reseed(s, digest, sizeof digest);
+    empty(p);
+    s->key_requests = 0;
+}
+
+uint32_t plain_keyed_event(plain_keyed *k, uint32_t source, const uint8_t *data, size_t length, uint32_t *emptied)
+{
+    plain_state *s = &k->station;
+    *emptied = 0;
+    uint32_t number = event_input(source, 0, length);
+    if (number != 0) return number;
+    if (keyed_malformed(k)) return 21;
+    plain_pool *own = &s->pools[input_pool(k)];
+    if (full(own, length)) return 22;
+    if (k->step == UINT64_MAX) return 45;
+    const bool reseeds = empties(k->step);
+    if (reseeds && spent(s, 1)) return 24;
+    gain(own, source, data, length);
+    if (reseeds) empty_into_key(s, &s->pools[output_pool(k->step)]);
+    *emptied = reseeds;
+    k->step++;
+    return 0;
+}
+
+/* 21, 23 or 24 of a request; growth is how many blocks it makes. */
+static uint32_t keyed_refusal(const plain_keyed *k, uint64_t growth)
+{
+    if (keyed_malformed(k)) return 21;
+    if (unseeded(&k->station)) return 23;
+    return spent(&k->station, growth) ? 24 : 0;
+}
+
+uint32_t plain_keyed_request(plain_keyed *k, uint8_t *out, size_t length)
+{
+    if (length > max_request) return 14;
+    uint32_t number = keyed_refusal(k, blocks_for(length));
+    if (number == 0) serve(&k->station, out, length);
+    return number;
+}
+
+uint32_t plain_keyed_update(plain_keyed *k, uint8_t *seed, size_t length)
+{
+    if (length != PLAIN_SEED) return 15;
+    if (blank(seed)) return 36;
+    if (keyed_malformed(k)) return 21;
+    if (spent(&k->station, 1 + blocks_for(length))) return 24;
+    reseed(&k->station, seed, length);
+    serve(&k->station, seed, length);
+    return 0;
+}
+
+uint32_t plain_keyed_write(plain_keyed *k, uint8_t *seed, size_t length)
+{
+    if (length != PLAIN_SEED) return 15;
+    uint32_t number = keyed_refusal(k, blocks_for(length));
+    if (number == 0) serve(&k->station, seed, length);
     return number;
 }

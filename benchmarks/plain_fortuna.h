@@ -1,5 +1,6 @@
-/* Fortuna with 32 pools, timer and seeds, in plain C over libtomcrypt's SHA-256 and AES-256: the same calls, refusals
-   and check of the whole state as the proved library makes, written the usual way, on a state that the caller keeps. */
+/* Fortuna with 32 pools, timer and seeds, and with its pools chosen by key, in plain C over libtomcrypt's SHA-256 and
+   AES-256: the same calls, refusals and check of the whole state as the proved library makes, written the usual way, on
+   a state that the caller keeps. */
 #ifndef PLAIN_FORTUNA_H
 #define PLAIN_FORTUNA_H
 
@@ -31,6 +32,14 @@ typedef struct {
     uint16_t key_requests;
 } plain_state;
 
+/* With the pools chosen by key. Of the station's fields last_reseed, reseed_count and reseeded stay 0. The step number
+   is that of the next event. */
+typedef struct {
+    plain_state station;
+    uint8_t scheduler_key[32];
+    uint64_t step;
+} plain_keyed;
+
 /* What a source may bring between two pool reseeds, and what it has brought. */
 typedef struct {
     uint32_t source;
@@ -46,6 +55,13 @@ uint32_t plain_event(plain_state *s, uint32_t source, uint32_t pool, const uint8
 uint32_t plain_request(plain_state *s, uint32_t clock, uint8_t *out, size_t length, uint32_t *emptied);
 uint32_t plain_update(plain_state *s, uint32_t clock, uint8_t *seed, size_t length, uint32_t *emptied);
 uint32_t plain_write(plain_state *s, uint32_t clock, uint8_t *seed, size_t length, uint32_t *emptied);
+
+/* The same with the pools chosen by key, and 45 too. Only an event empties a pool, and only it stores the count. */
+void plain_keyed_new(plain_keyed *k, const uint8_t scheduler_key[32]);
+uint32_t plain_keyed_event(plain_keyed *k, uint32_t source, const uint8_t *data, size_t length, uint32_t *emptied);
+uint32_t plain_keyed_request(plain_keyed *k, uint8_t *out, size_t length);
+uint32_t plain_keyed_update(plain_keyed *k, uint8_t *seed, size_t length);
+uint32_t plain_keyed_write(plain_keyed *k, uint8_t *seed, size_t length);
 
 /* An event and a request with a list of quotas; 37 to 39 too. */
 uint32_t plain_metered_event(plain_state *s, plain_quota *quotas, size_t records, uint32_t source, uint32_t pool,
