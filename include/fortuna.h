@@ -432,13 +432,13 @@ size_t fortuna_log(const uint8_t *log, size_t length, uint8_t *out, size_t room)
 
    With the calls above the caller names the pool of each event, as a rule the pools in turn. Noise that comes in bursts
    of the same rhythm then goes to the same pools again and again, and these may be some that are used once in years.
-   The keyed scheduler chooses the pool itself, by a secret key, so that no burst can follow. It is a state of its own,
-   which no call above takes, and its calls take no fortuna_state.
+   The keyed scheduler chooses the pool itself, by a secret key: who does not know the key has no round to follow. It is
+   a state of its own, which no call above takes, and its calls take no fortuna_state.
 
    UPDATE THE SEED FIRST. An empty pool is emptied too: from the 33rd event on requests are answered, even where nothing
    unknown went in. Nothing tells such a key from a good one, and anybody can work it out. So call fortuna_keyed_update
    with the stored seed before the first event. Where there is none (FORTUNA_BLANK_SEED), draw and write nothing until
-   as much noise has entered the key as it needs: run_keyed in examples/c/station.c counts the events that have.
+   as much noise has entered the key as it needs: events_entered in examples/c/station.c counts the events.
 
    The scheduler key is a secret of 32 bytes. Make it by a generator of its own, neither by the station that it is to
    serve nor from the same noise, another for each device, and keep it: each start takes it again. Who knows it knows
