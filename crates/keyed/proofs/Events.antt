@@ -231,6 +231,7 @@ event-number s source d m i k formed placed e = rw (← formed, ← placed) e
 -- its effect
 pub event-effect :
     (s : Keyed) (source : ℕ) (d : List ℕ) (n : ℕ) (x : Keyed) (u : Bool) → u ≡ empties (s .step) → n ≡ cond u 1 0
-    → x ≡ addEvent s (eventBytes source d) .next → (n ≡ callEffect s (event source d) .emptied) × (x ≡ callEffect s (event source d) .next) × ([] ≡ callEffect s (event source d) .buffer)
+    → x ≡ addEvent s (eventBytes source d) .next
+    → (n ≡ callEffect s (event source d) .emptied) × (x ≡ callEffect s (event source d) .next) × ([] ≡ callEffect s (event source d) .buffer)
 unfolding callEffect addEvent
 event-effect s source d n x u e f g = (f ∙ ap (λ (t : Bool). cond t 1 0) e, g, refl)

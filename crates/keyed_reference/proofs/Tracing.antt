@@ -9,11 +9,11 @@ use native.Mathlib.Omega.{arith}
 use lib.Dec.{eqb}
 use Rattle.laws.specs.Lists.{select}
 use Rattle.laws.proofs.Cases.{split}
-use Rattle.laws.proofs.Lists.{joined-map}
 use Rattle.pools.specs.Events.{eventBytes}
 use Rattle.pools.specs.Calls.{Outcome, outcome}
 use Rattle.pools.proofs.Runs.{outcome-beside, from-beside}
 use Rattle.reference.specs.Provenance.{Piece, erased}
+use Rattle.reference.proofs.Tracing.{erased-pieces}
 use Rattle.keyed.specs.declared.Keyed.{Keyed}
 use Rattle.keyed.specs.Scheduler.{inputPool, empties, outputPool, takes}
 use Rattle.keyed.specs.State.{fresh, picked}
@@ -29,8 +29,8 @@ use Rattle.keyed_reference.proofs.Simulation.{output-taken}
 use Rattle.keyed_reference.proofs.Agreement.{picked-concrete, step-concrete, entry-agrees, step-agrees, step-sound, fresh-concrete}
 
 pub erased-map : (es : List Accepted) → erased (map pieceOf es) ≡ contents es
-unfolding erased contents
-erased-map es = joined-map (λ (p : Piece). p .bytes) pieceOf es ∙ (unfold pieceOf in refl)
+unfolding contents pieceOf
+erased-map es = erased-pieces pieceOf es
 
 -- ---- what the model says of the pieces
 

@@ -167,7 +167,8 @@ EveryCallRow =
 -- no key yet: requests and writes are refused by 23, an update is taken
 abbrev pub UnseededRow : Type 0
 UnseededRow =
-    map (λ (c : Call). step (fresh rowKey) c .number) (request [] ∷ request (1 ∷ []) ∷ write page ∷ update page ∷ []) ≡ 23 ∷ 23 ∷ 23 ∷ 0 ∷ []
+    map (λ (c : Call). step (fresh rowKey) c .number) (request [] ∷ request (1 ∷ []) ∷ write page ∷ update page ∷ [])
+    ≡ 23 ∷ 23 ∷ 23 ∷ 0 ∷ []
 
 -- 24 of requests and seed calls with nothing due, also at a step that empties: blocks and two more, an update seven
 abbrev pub SpentCallsRow : Type 0

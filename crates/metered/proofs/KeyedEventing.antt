@@ -138,7 +138,8 @@ module _ (s : Keyed) (rs : List Quota) (source : ℕ) (content : List ℕ) where
 
   -- ---- its list: charged where it was accepted, and then with nothing spent where its step emptied a pool
 
-  charged-list : (cost : ℕ) → (N ≡ 0 → cost ≡ gain n) → cond (eqb N 0) (charged rs source cost) rs ≡ cond (eqb N 0) (charged rs source (gain n)) rs
+  charged-list :
+      (cost : ℕ) → (N ≡ 0 → cost ≡ gain n) → cond (eqb N 0) (charged rs source cost) rs ≡ cond (eqb N 0) (charged rs source (gain n)) rs
   charged-list cost h = cond-cong (eqb N 0) (λ t. ap (charged rs source) (h (eqb-true N 0 t))) (λ t. refl)
 
   cleared-list : (t : Bool) (cost : ℕ) → cleared (cond t (charged rs source cost) rs) ≡ cleared rs

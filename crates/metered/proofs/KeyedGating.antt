@@ -66,7 +66,8 @@ module _ (c : Call) (p : Plain c) (s : Keyed) (rs : List Quota) where
       (split (λ (l : List Quota). rs ≡ l) (eqb (outcome n true 0 (inputBuffer c) s (callEffect s c) .number) 0) (λ _. refl) (λ _. refl))
 
   -- so what the gated call gives is what the call with its list promises
-  pub meters-plain : (n : ℕ) (r : Outcome) (xs : List ℕ) → n ≡ quotasNumber rs → GivesBytes (keyedGatedStep n s c) r xs → KeyedMetersBytes s rs c r xs
+  pub meters-plain :
+      (n : ℕ) (r : Outcome) (xs : List ℕ) → n ≡ quotasNumber rs → GivesBytes (keyedGatedStep n s c) r xs → KeyedMetersBytes s rs c r xs
   meters-plain n r xs e g =
       let is : keyedGatedStep n s c ≡ entryStep s (taking (within rs) c) = ap (λ (m : ℕ). keyedGatedStep m s c) e ∙ gated-listed in
       (subst (λ (o : Calls.Outcome Keyed). GivesBytes o r xs) is g, left-plain)
