@@ -28,9 +28,9 @@ use Rattle.quotas.proofs.Lists.{cleared-charged}
 use Rattle.keyed.specs.declared.Keyed.{Keyed}
 use Rattle.keyed.specs.declared.Outcome.{Outcome}
 use Rattle.keyed.specs.Scheduler.{empties}
-use Rattle.keyed.specs.State.{poolAt, counterOf, malformed}
+use Rattle.keyed.specs.State.{poolAt, counterOf, malformed, picked}
 use Rattle.keyed.specs.Refusals.{maxStep, stepNumber, eventInput, eventState}
-use Rattle.keyed.specs.Calls.{Call, event, inputBuffer, picked, inputNumber, stateNumber, callNumber, callEffect, step}
+use Rattle.keyed.specs.Calls.{Call, event, inputBuffer, inputNumber, stateNumber, callNumber, callEffect, step}
 use Rattle.keyed.specs.Entries.{taking, listNumber, entryNumber, entryStep, chargedFor, quotasLeft, leftBy}
 use Rattle.keyed.specs.Promises.{Gives}
 use Rattle.keyed.proofs.Chains.{call-chains}

@@ -39,7 +39,7 @@ unfolding listNumber chargedFor callEffect randomData randomDataFrom
 request-plain buffer = record { number = λ rs. refl; free = λ rs. refl; none = λ s. refl }
 
 pub update-plain : (seed : List ℕ) → Plain (update seed)
-unfolding listNumber chargedFor callEffect updateSeed randomDataFrom
+unfolding listNumber chargedFor callEffect updateSeed randomData randomDataFrom
 update-plain seed = record { number = λ rs. refl; free = λ rs. refl; none = λ s. refl }
 
 pub write-plain : (seed : List ℕ) → Plain (write seed)
