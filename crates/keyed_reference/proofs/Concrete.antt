@@ -1,12 +1,10 @@
 -- Of the state that the model says, the station reads what the model reads.
 -- Assumes nothing.
 use mathlib.Core.Path.{_≡_, refl, ap}
-use mathlib.Core.Bool.{false, not}
+use mathlib.Core.Bool.{false}
 use mathlib.Core.List.{List}
-use Prim.Native.Nat.{ℕ, _<_, min}
-use lib.Dec.{eqb}
+use Prim.Native.Nat.{ℕ, _<_}
 use lib.ListN.{length}
-use Rattle.laws.specs.Lists.{allZero}
 use Rattle.laws.proofs.Tabulate.{getD-tabulate}
 use Rattle.hash.specs.ShaD.{poolOf}
 use Rattle.hash.proofs.Laws.{pool-length}
@@ -15,11 +13,9 @@ use Rattle.generator.specs.Refusals as Generator
 use Rattle.generator.proofs.Laws.{decode-encode}
 use Rattle.pools.specs.Events.{poolCount}
 use Rattle.pools.specs.Pool.{malformedPool}
-use Rattle.pools.specs.Schedule.{maxKeyRequests}
 use Rattle.pools.specs.State.{anyPool, unseededCounted}
 use Rattle.pools.specs.Collected.{nth}
-use Rattle.pools.proofs.PoolTests.{any-tabulate}
-use Rattle.pools.proofs.WellFormed.{well-formed, zero-count}
+use Rattle.pools.proofs.Held.{pools-fine, key-fine, requests-fine}
 use Rattle.keyed.specs.State.{poolAt, counterOf, timerMoved, malformedFields, malformed}
 use Rattle.keyed_reference.specs.Reference.{Reference, poolContents}
 use Rattle.keyed_reference.specs.Agreement.{concrete}
@@ -35,7 +31,7 @@ size-concrete key b i h = rw (pool-concrete key b i h) (pool-length (poolContent
 module _ (key : List ℕ) (b : Reference) (s : Sound b) where
   pub decode-concrete : decode (concrete key b .generator) ≡ b .generator
   unfolding concrete
-  decode-concrete = decode-encode (b .generator) (s .counts)
+  decode-concrete = decode-encode (b .generator) (s .held .counts)
 
   pub counter-concrete : counterOf (concrete key b) ≡ b .generator .count
   unfolding counterOf
@@ -43,17 +39,13 @@ module _ (key : List ℕ) (b : Reference) (s : Sound b) where
 
   -- ---- 21 never arises
 
-  pools-fine : anyPool malformedPool (concrete key b .pools) ≡ false
+  concrete-pools : anyPool malformedPool (concrete key b .pools) ≡ false
   unfolding concrete
-  pools-fine = any-tabulate malformedPool (λ i. poolOf (poolContents b i)) poolCount (λ i h. well-formed (poolContents b i) (s .fits i))
+  concrete-pools = pools-fine (s .held)
 
-  key-fine : Generator.malformed (b .generator) ≡ false
-  unfolding Generator.malformed
-  key-fine = zero-count (b .generator .count) (not (allZero (b .generator .key))) (λ z. rw (s .keyed z))
-
-  requests-fine : unseededCounted (b .generator .count) (concrete key b .«key_requests») ≡ false
-  unfolding unseededCounted concrete maxKeyRequests
-  requests-fine = zero-count (b .generator .count) (not (eqb (min maxKeyRequests (b .keyRequests)) 0)) (λ z. rw (s .counted z))
+  concrete-requests : unseededCounted (b .generator .count) (concrete key b .«key_requests») ≡ false
+  unfolding concrete
+  concrete-requests = requests-fine (s .held)
 
   timer-fine : timerMoved (concrete key b .reseeded) (concrete key b .«last_reseed») (concrete key b .«reseed_count») ≡ false
   unfolding timerMoved concrete
@@ -61,4 +53,4 @@ module _ (key : List ℕ) (b : Reference) (s : Sound b) where
 
   pub malformed-concrete : malformed (concrete key b) ≡ false
   unfolding malformed malformedFields
-  malformed-concrete = rw (pools-fine, decode-concrete, key-fine, timer-fine, requests-fine)
+  malformed-concrete = rw (concrete-pools, decode-concrete, key-fine (s .held), timer-fine, concrete-requests)

@@ -66,4 +66,4 @@ module _ (key : List ℕ) where
   no-repeat calls =
       subst (λ (l : List (List ℕ)). NoRepeat l) (sym (blocks-are calls))
       (unfold referenceRun in
-      run-no-repeat counted (referenceStep key) Sound (λ b s. s .counts) (step-sound key) step-rises calls 0 empty sound-empty)
+      run-no-repeat counted (referenceStep key) Sound (λ b s. s .held .counts) (step-sound key) step-rises calls 0 empty sound-empty)

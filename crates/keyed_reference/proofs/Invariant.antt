@@ -1,21 +1,21 @@
 -- What holds of the reference model throughout a run, and what its pools hold after an event.
 -- Assumes nothing.
-use mathlib.Core.Path.{_≡_, refl, ap, subst}
+use mathlib.Core.Path.{_≡_, refl, ap}
 use mathlib.Core.Bool.{Bool, true, false, cond}
 use mathlib.Core.List.{List, [], _∷_, _++_}
 use Prim.Native.Nat.{ℕ, _+_, _≤_, _<_, zero-le}
 use native.Mathlib.Omega.{arith}
 use lib.Dec.{eqb}
-use lib.ListN.{length, length-append}
+use lib.ListN.{length}
 use borrow.Author.Tests.{eqb-true, eqb-false}
-use Rattle.laws.specs.Lists.{joined, select, allZero}
+use Rattle.laws.specs.Lists.{joined, select}
 use Rattle.laws.proofs.Cases.{by-test}
-use Rattle.laws.proofs.Lists.{allZero-replicate}
 use Rattle.laws.proofs.Selections.{every-none, every-append}
 use Rattle.hash.specs.ShaD.{maxPoolLength}
 use Rattle.generator.specs.Counter.{maxCounter}
-use Rattle.generator.specs.Steps.{GeneratorState, initial, reseed}
+use Rattle.generator.specs.Steps.{GeneratorState, reseed}
 use Rattle.generator.proofs.Laws.{reseed-count}
+use Rattle.pools.proofs.Held.{Held, held-empty, fits-gained, held-keyed, held-other}
 use Rattle.keyed.specs.Scheduler.{inputPool, empties, takes}
 use Rattle.keyed.specs.Refusals.{maxStep}
 use Rattle.keyed_reference.specs.Reference.{Accepted, Reference, empty, pending, contents, poolContents, noted, referenceEvent}
@@ -24,10 +24,7 @@ use Rattle.keyed_reference.proofs.Bookings.{Past, pending-contents, pen
 
 pub record Sound (b : Reference) : Type 0 where
   pub past : Past (b .steps) (b .events)
-  pub fits : (i : ℕ) → length (poolContents b i) ≤ maxPoolLength
-  pub counts : b .generator .count ≤ maxCounter
-  pub keyed : b .generator .count ≡ 0 → allZero (b .generator .key) ≡ true
-  pub counted : b .generator .count ≡ 0 → b .keyRequests ≡ 0
+  pub held : Held (poolContents b) (b .generator) (b .keyRequests)
   pub left : b .steps ≤ maxStep
 
 pub empty-contents : (i : ℕ) → poolContents empty i ≡ []
@@ -38,10 +35,7 @@ pub sound-empty : Sound empty
 sound-empty =
     record {
       past = unfold empty in every-none _;
-      fits = λ i. rw (empty-contents i) zero-le;
-      counts = unfold empty initial in zero-le;
-      keyed = λ h. unfold empty initial in allZero-replicate 32;
-      counted = λ h. unfold empty in refl;
+      held = unfold empty in held-empty (poolContents empty) empty-contents;
       left = unfold empty in zero-le;
     }
 
@@ -79,9 +73,23 @@ module _ (key : List ℕ) (place : ℕ) (b : Reference) (bytes : List ℕ) where
     unfolding poolContents referenceEvent gainedContents
     contents-kept i u = ap contents (pending-stays (b .steps) i (noted key place b bytes) past-noted u)
 
-  -- K and C once the event has emptied a pool, or none
-  abbrev reseedIf : Bool → List ℕ → GeneratorState
-  reseedIf t d = cond t (reseed (b .generator) d) (b .generator)
+  -- the strings after the event
+  event-fits :
+      length (poolContents b (inputPool key (b .steps))) + length bytes ≤ maxPoolLength → Sound b →
+      (i : ℕ) → length (poolContents (referenceEvent key place b bytes .next) i) ≤ maxPoolLength
+  event-fits h s i =
+      by-test (takes (b .steps) i) _
+      (λ u. rw (contents-taken (s .past) i u) zero-le)
+      (λ u. rw (contents-kept (s .past) i u, contents-gained i) (fits-gained (s .held) (inputPool key (b .steps)) bytes h i))
+
+  -- K, C and the requests once it has emptied a pool, or none
+  event-held :
+      (held : ℕ → List ℕ) → Held held (b .generator) (b .keyRequests) → (t : Bool) (d : List ℕ) →
+      (t ≡ true → b .generator .count + 1 ≤ maxCounter) →
+      Held held (cond t (reseed (b .generator) d) (b .generator)) (cond t 0 (b .keyRequests))
+  event-held held h true d room =
+      held-keyed h (reseed (b .generator) d) 0 (rw (reseed-count (b .generator) d) (room refl)) (omega (arith, reseed-count (b .generator) d))
+  event-held held h false d room = h
 
   pub sound-event :
       length (poolContents b (inputPool key (b .steps))) + length bytes ≤ maxPoolLength →
@@ -90,13 +98,7 @@ module _ (key : List ℕ) (place : ℕ) (b : Reference) (bytes : List ℕ) where
   sound-event h room more s =
       record {
         past = unfold referenceEvent in past-noted (s .past);
-        fits = λ i. by-test (takes (b .steps) i) _
-            (λ u. rw (contents-taken (s .past) i u) zero-le)
-            (λ u. rw (contents-kept (s .past) i u, contents-gained i, length-append)
-            (grown i (eqb (inputPool key (b .steps)) i) (eqb-true (inputPool key (b .steps)) i)));
-        counts = unfold referenceEvent in split-count (empties (b .steps)) _ room;
-        keyed = unfold referenceEvent in split-key (empties (b .steps)) _;
-        counted = unfold referenceEvent in split-counted (empties (b .steps)) _;
+        held = after-held;
         left = unfold referenceEvent in one-left;
       }
     where
@@ -106,23 +108,12 @@ module _ (key : List ℕ) (place : ℕ) (b : Reference) (bytes : List ℕ) where
           (λ e. absurd (more (eqb-true (b .steps) maxStep e)))
           (λ e. omega (arith, s .left, eqb-false (b .steps) maxStep e))
 
-      grown :
-          (i : ℕ) (t : Bool) → (t ≡ true → inputPool key (b .steps) ≡ i) →
-          length (poolContents b i) + length (cond t bytes []) ≤ maxPoolLength
-      grown i true q = subst (λ k. length (poolContents b k) + length bytes ≤ maxPoolLength) (q refl) h
-      grown i false q = omega (arith, s .fits i)
-
-      split-count : (t : Bool) (d : List ℕ) → (t ≡ true → b .generator .count + 1 ≤ maxCounter) → reseedIf t d .count ≤ maxCounter
-      split-count true d r = unfold reseed in r refl
-      split-count false d r = s .counts
-
-      split-key : (t : Bool) (d : List ℕ) → reseedIf t d .count ≡ 0 → allZero (reseedIf t d .key) ≡ true
-      split-key true d z = absurd (omega (arith, reseed-count (b .generator) d, z))
-      split-key false d z = s .keyed z
-
-      split-counted : (t : Bool) (d : List ℕ) → reseedIf t d .count ≡ 0 → cond t 0 (b .keyRequests) ≡ 0
-      split-counted true d z = refl
-      split-counted false d z = s .counted z
+      after-held :
+          let next = referenceEvent key place b bytes .next in Held (poolContents next) (next .generator) (next .keyRequests)
+      after-held =
+          let contents-now : ℕ → List ℕ = poolContents (referenceEvent key place b bytes .next) in
+          let fit : Held contents-now (b .generator) (b .keyRequests) = held-other (s .held) contents-now (event-fits h s) in
+          unfold referenceEvent in event-held _ fit (empties (b .steps)) _ room
 
 -- ---- a request
 
@@ -131,12 +122,4 @@ requestedState b w = record { generator = w; steps = b .steps; events = b .event
 
 pub sound-requested : (b : Reference) (w : GeneratorState) → w .count ≤ maxCounter → 0 < w .count → Sound b → Sound (requestedState b w)
 unfolding requestedState poolContents
-sound-requested b w h pos s =
-    record {
-      past = s .past;
-      fits = s .fits;
-      counts = h;
-      keyed = λ z. absurd (omega arith);
-      counted = λ z. absurd (omega arith);
-      left = s .left;
-    }
+sound-requested b w h pos s = record { past = s .past; held = held-keyed (s .held) w _ h pos; left = s .left }

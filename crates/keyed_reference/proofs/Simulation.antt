@@ -166,7 +166,7 @@ module _ (key : List ℕ) (place : ℕ) (b : Reference) (bytes : List ℕ) (s : 
   taken-next e =
       let n = next-is (reseed (b .generator) (D (contents (select (consumedAt (b .steps) out-pool) (noted key place b bytes))))) 0 true (sym e) refl refl in
       λ i. record {
-        generator = (ap encode (ap₂ reseed (decode-encode (b .generator) (s .counts)) (digest-is e)) ∙ ap encode (n .0)) i;
+        generator = (ap encode (ap₂ reseed (decode-encode (b .generator) (s .held .counts)) (digest-is e)) ∙ ap encode (n .0)) i;
         pools = emptied-pools e i;
         «last_reseed» = 0;
         «reseed_count» = 0;

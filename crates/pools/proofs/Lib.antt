@@ -28,3 +28,4 @@ pub mod Blank
 pub mod Slots
 pub mod WellFormed
 pub mod GainedPools
+pub mod Held

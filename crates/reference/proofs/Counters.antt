@@ -71,4 +71,4 @@ pub no-repeat : (calls : List Entry) → NoRepeat (counterBlocks calls)
 no-repeat calls =
     subst (λ (l : List (List ℕ)). NoRepeat l) (sym (blocks-are calls))
     (unfold referenceRun in
-    run-no-repeat counted referenceStep Sound (λ b s. s .counts) step-sound step-rises calls 0 empty sound-empty)
+    run-no-repeat counted referenceStep Sound (λ b s. s .held .counts) step-sound step-rises calls 0 empty sound-empty)

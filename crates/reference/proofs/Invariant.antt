@@ -1,32 +1,28 @@
 -- What holds of the reference model throughout a run.
 -- Assumes nothing.
-use mathlib.Core.Path.{_≡_, refl, ap, ap₂, subst, _∙_}
+use mathlib.Core.Path.{_≡_, refl, ap, ap₂, subst₂, _∙_}
 use mathlib.Core.Bool.{Bool, true, false, cond}
 use mathlib.Core.List.{List, [], _∷_, _++_}
 use Prim.Native.Nat.{ℕ, _+_, _≤_, _<_, zero-le}
 use native.Mathlib.Omega.{arith}
 use lib.Dec.{eqb}
-use lib.ListN.{length, length-append}
-use borrow.Author.Tests.{eqb-true}
-use Rattle.laws.specs.Lists.{joined, select, allZero}
+use lib.ListN.{length}
+use Rattle.laws.specs.Lists.{joined, select}
 use Rattle.laws.proofs.Cases.{by-test}
-use Rattle.laws.proofs.Lists.{allZero-replicate}
 use Rattle.laws.proofs.Selections.{every-none, every-append}
 use Rattle.hash.specs.ShaD.{maxPoolLength}
 use Rattle.generator.specs.Counter.{maxCounter}
-use Rattle.generator.specs.Steps.{GeneratorState, initial, reseed}
+use Rattle.generator.specs.Steps.{GeneratorState, reseed}
 use Rattle.pools.specs.Schedule.{used, usedPools}
+use Rattle.pools.proofs.Held.{Held, held-empty, fits-gained, held-keyed, held-other}
 use Rattle.reference.specs.Reference.{Accepted, Reference, empty, pending, consumedAt, contents, poolContents, dueAt, appendEvent, withState, requestedState, referenceReseed, referenceReseedIfDue, referenceCount}
 use Rattle.reference.proofs.Bookings.{Past, pending-contents, pending-consumed, pending-gone, pending-stays}
 
 pub record Sound (b : Reference) : Type 0 where
   pub past : Past (b .reseeds) (b .events)
-  pub fits : (i : ℕ) → length (poolContents b i) ≤ maxPoolLength
-  pub counts : b .generator .count ≤ maxCounter
-  pub keyed : b .generator .count ≡ 0 → allZero (b .generator .key) ≡ true
+  pub held : Held (poolContents b) (b .generator) (b .keyRequests)
   pub seeds : b .generator .count ≡ 0 → b .reseeds ≡ 0
   pub marked : b .reseeds ≡ 0 → b .lastReseed ≡ 0
-  pub counted : b .generator .count ≡ 0 → b .keyRequests ≡ 0
 
 -- nothing is in a pool yet
 pub empty-contents : (i : ℕ) → poolContents empty i ≡ []
@@ -37,12 +33,9 @@ pub sound-empty : Sound empty
 sound-empty =
     record {
       past = unfold empty in every-none _;
-      fits = λ i. rw (empty-contents i) zero-le;
-      counts = unfold empty initial in zero-le;
-      keyed = λ h. unfold empty initial in allZero-replicate 32;
+      held = unfold empty in held-empty (poolContents empty) empty-contents;
       seeds = λ h. unfold empty in refl;
       marked = λ h. unfold empty in refl;
-      counted = λ h. unfold empty in refl;
     }
 
 -- ---- the model's words, read once: what it notes of an event, and how many pools a reseed uses
@@ -89,58 +82,51 @@ pub sound-event : (place : ℕ) (b : Reference) (pool : ℕ) (bytes : List ℕ) 
 sound-event place b pool bytes h s =
     record {
       past = rw (events-noted place b pool bytes) (unfold appendEvent in every-append _ (b .events) _ (s .past) (omega arith));
-      fits = λ i. rw (contents-event place b pool bytes i, length-append) (grown i (eqb pool i) (eqb-true pool i));
-      counts = unfold appendEvent in s .counts;
-      keyed = unfold appendEvent in s .keyed;
+      held = event-held;
       seeds = unfold appendEvent in s .seeds;
       marked = unfold appendEvent in s .marked;
-      counted = λ h. unfold appendEvent in omega (arith, s .counted h);
     }
   where
-    grown : (i : ℕ) (t : Bool) → (t ≡ true → pool ≡ i) → length (poolContents b i) + length (cond t bytes []) ≤ maxPoolLength
-    grown i true q = subst (λ k. length (poolContents b k) + length bytes ≤ maxPoolLength) (q refl) h
-    grown i false q = omega (arith, s .fits i)
+    same-requests : b .keyRequests ≡ appendEvent place b pool bytes .keyRequests
+    same-requests = unfold appendEvent in omega arith
+
+    grown : Held (poolContents (appendEvent place b pool bytes)) (b .generator) (b .keyRequests)
+    grown =
+        held-other (s .held) (poolContents (appendEvent place b pool bytes))
+        (λ i. rw (contents-event place b pool bytes i) (fits-gained (s .held) pool bytes h i))
+
+    same-generator : b .generator ≡ appendEvent place b pool bytes .generator
+    same-generator = unfold appendEvent in refl
+
+    event-held :
+        let next = appendEvent place b pool bytes in Held (poolContents next) (next .generator) (next .keyRequests)
+    event-held = subst₂ (Held (poolContents (appendEvent place b pool bytes))) same-generator same-requests grown
 
 pub sound-state : (b : Reference) (w : GeneratorState) → w .count ≤ maxCounter → 0 < w .count → Sound b → Sound (withState b w)
 unfolding withState poolContents
 sound-state b w h pos s =
-    record {
-      past = s .past;
-      fits = s .fits;
-      counts = h;
-      keyed = λ z. absurd (omega arith);
-      seeds = λ z. absurd (omega arith);
-      marked = s .marked;
-      counted = λ z. absurd (omega arith);
-    }
+    record { past = s .past; held = held-keyed (s .held) w _ h pos; seeds = λ z. absurd (omega arith); marked = s .marked }
 
 pub sound-request : (b : Reference) (w : GeneratorState) → w .count ≤ maxCounter → 0 < w .count → Sound b → Sound (requestedState b w)
 unfolding requestedState poolContents
 sound-request b w h pos s =
-    record {
-      past = s .past;
-      fits = s .fits;
-      counts = h;
-      keyed = λ z. absurd (omega arith);
-      seeds = λ z. absurd (omega arith);
-      marked = s .marked;
-      counted = λ z. absurd (omega arith);
-    }
+    record { past = s .past; held = held-keyed (s .held) w _ h pos; seeds = λ z. absurd (omega arith); marked = s .marked }
 
 pub sound-reseed : (b : Reference) (t : ℕ) → b .generator .count + 1 ≤ maxCounter → Sound b → Sound (referenceReseed b t)
 unfolding referenceReseed reseed
 sound-reseed b t h s =
     record {
       past = λ e m. omega (arith, s .past e m);
-      fits = λ i. by-test (used (b .reseeds + 1) i) (length (poolContents (referenceReseed b t) i) ≤ maxPoolLength)
-          (λ u. rw (contents-used b t (s .past) i u) zero-le)
-          (λ u. rw (contents-unused b t (s .past) i u) (s .fits i));
-      counts = h;
-      keyed = λ z. absurd (omega arith);
+      held = held-keyed (held-other (s .held) (poolContents (referenceReseed b t)) left) _ _ h (omega arith);
       seeds = λ z. absurd (omega arith);
       marked = λ z. absurd (omega arith);
-      counted = λ z. absurd (omega arith);
     }
+  where
+    left : (i : ℕ) → length (poolContents (referenceReseed b t) i) ≤ maxPoolLength
+    left i =
+        by-test (used (b .reseeds + 1) i) (length (poolContents (referenceReseed b t) i) ≤ maxPoolLength)
+        (λ u. rw (contents-used b t (s .past) i u) zero-le)
+        (λ u. rw (contents-unused b t (s .past) i u) (s .held .fits i))
 
 -- ---- a pool reseed if due
 
