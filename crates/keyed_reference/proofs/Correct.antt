@@ -10,7 +10,7 @@ use Rattle.keyed_reference.proofs.Provenance.{provenance}
 use Rattle.keyed_reference.proofs.Counters.{no-repeat}
 use Rattle.keyed_reference.proofs.Counting.{counted, steps-made, on-one-key}
 use Rattle.keyed_reference.proofs.Left.{emptied-law}
-use Rattle.keyed_reference.proofs.Served.{served-law, refused-law, list-told, timer-law}
+use Rattle.keyed_reference.proofs.Served.{served-law, refused-law, list-told, timer-law, no-clause-law}
 
 pub keyed-run-correct : (key : List ℕ) (calls : List Entry) → KeyedRunCorrect key calls
 keyed-run-correct key calls =
@@ -29,5 +29,6 @@ keyed-run-correct key calls =
       refused = refused-law;
       told = list-told;
       timer = timer-law;
+      clauses = no-clause-law;
       key-requests = on-one-key key calls;
     }

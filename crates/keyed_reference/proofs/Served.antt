@@ -28,7 +28,7 @@ use Rattle.keyed.specs.Calls.{Call, event, request, update, write, inputBuffer,
 use Rattle.keyed.specs.Entries.{taking, listNumber, entryNumber, entryStep, listLeft, leftBy}
 use Rattle.keyed.proofs.Chains.{call-chains}
 use Rattle.keyed.proofs.Requests.{update-is}
-use Rattle.keyed_reference.specs.Served.{Serves, ServedLaw, kept, RefusedLaw, ListTold, TimerLaw}
+use Rattle.keyed_reference.specs.Served.{Serves, ServedLaw, kept, RefusedLaw, ListTold, TimerLaw, NoClauseLaw}
 
 done : (s : Keyed) (q : Quotas) (c : Call) → entryNumber s (taking q c) ≡ 0 → entryStep s (taking q c) .effect ≡ callEffect s c
 unfolding entryStep outcome effectOf
@@ -116,3 +116,7 @@ pub timer-law : TimerLaw
 unfolding entryNumber
 timer-law s q c i l h =
     then-second (inputNumber c) _ i ∙ then-second (listNumber q c) (stateNumber s c) l ∙ by-21 s c (moved-malformed s (moved s h))
+
+pub no-clause-law : NoClauseLaw
+unfolding malformed
+no-clause-law s t key = refl

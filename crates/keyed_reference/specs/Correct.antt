@@ -12,7 +12,7 @@ use Rattle.keyed_reference.specs.Agreement.{RunIsSteps, Agrees}
 use Rattle.keyed_reference.specs.Schedule.{InputLaw, OutputLaw, ScheduleLaw, EmptiedLaw, StepsMade}
 use Rattle.keyed_reference.specs.Provenance.{Provenance}
 use Rattle.keyed_reference.specs.Counters.{counterBlocks, Counted, OnOneKey}
-use Rattle.keyed_reference.specs.Served.{ServedLaw, RefusedLaw, ListTold, TimerLaw}
+use Rattle.keyed_reference.specs.Served.{ServedLaw, RefusedLaw, ListTold, TimerLaw, NoClauseLaw}
 
 pub record KeyedRunCorrect (key : List ℕ) (calls : List Entry) : Type 0 where
   -- the run is its calls' steps, one after the other
@@ -35,7 +35,8 @@ pub record KeyedRunCorrect (key : List ℕ) (calls : List Entry) : Type 0 where
   pub served : (s : Keyed) (q : Quotas) → ServedLaw s q
   pub refused : (s : Keyed) (q : Quotas) → RefusedLaw s q
   pub told : (s : Keyed) (c : Call) → ListTold s c
-  -- mark, flag and reseed number not at 0: 21
+  -- mark, flag and reseed number not at 0: 21; step and scheduler key have no clause
   pub timer : TimerLaw
+  pub clauses : NoClauseLaw
   -- the number in the state is how many requests were made on the key, up to 65,535
   pub key-requests : OnOneKey key calls

@@ -12,7 +12,7 @@ use Rattle.pools.specs.Effects.{Effect}
 use Rattle.quotas.specs.declared.Quota.{Quota}
 use Rattle.quotas.specs.Entries.{Quotas, without, within}
 use Rattle.keyed.specs.declared.Keyed.{Keyed}
-use Rattle.keyed.specs.State.{counterOf}
+use Rattle.keyed.specs.State.{counterOf, malformed}
 use Rattle.keyed.specs.Calls.{Call, event, request, update, write, inputNumber}
 use Rattle.keyed.specs.Entries.{taking, listNumber, entryNumber, entryStep, listLeft, leftBy}
 
@@ -60,3 +60,20 @@ abbrev pub TimerLaw : Type 0
 TimerLaw =
     (s : Keyed) (q : Quotas) (c : Call) → inputNumber c ≡ 0 → listNumber q c ≡ 0 →
     (s .«last_reseed» ≢ 0) ⊎ (s .«reseed_count» ≢ 0) ⊎ (s .reseeded ≡ true) → entryNumber s (taking q c) ≡ 21
+
+-- 21 has no clause on the step or on the scheduler key: a state is as well formed at any step and under any key
+abbrev pub NoClauseLaw : Type 0
+NoClauseLaw =
+    (s : Keyed) (t : ℕ) (key : List ℕ) →
+    malformed
+    (record {
+      generator = s .generator;
+      pools = s .pools;
+      «last_reseed» = s .«last_reseed»;
+      «reseed_count» = s .«reseed_count»;
+      reseeded = s .reseeded;
+      «key_requests» = s .«key_requests»;
+      «scheduler_key» = key;
+      step = t;
+    })
+    ≡ malformed s
