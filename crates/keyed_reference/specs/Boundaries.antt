@@ -109,8 +109,10 @@ OrderRow =
     ∷ eventNumber false 0 0 1 (2 ^ 128 - 1) 32
     ∷ eventNumber false 0 0 1 (2 ^ 128 - 1) 31
     ∷ eventNumber false 0 0 1 (2 ^ 128 - 1) 0
+    ∷ eventNumber false 0 0 1 (2 ^ 128 - 2) (2 ^ 36)
+    ∷ eventNumber false 0 0 1 (2 ^ 128 - 1) (2 ^ 36)
     ∷ []
-    ≡ 11 ∷ 13 ∷ 13 ∷ 21 ∷ 22 ∷ 45 ∷ 22 ∷ 24 ∷ 0 ∷ 0 ∷ []
+    ≡ 11 ∷ 13 ∷ 13 ∷ 21 ∷ 22 ∷ 45 ∷ 22 ∷ 24 ∷ 0 ∷ 0 ∷ 0 ∷ 24 ∷ []
 
 -- with a list: 37, 38 and 39 after 13 and before 21
 abbrev pub quota : ℕ → ℕ → ℕ → Quota
@@ -130,21 +132,22 @@ ListOrderRow =
     (request (replicate 1 0) ∷ update (replicate 63 1) ∷ update (replicate 64 1) ∷ update page ∷ write (replicate 64 1) ∷ [])
     ≡ 37 ∷ 15 ∷ 36 ∷ 37 ∷ 37 ∷ [])
 
--- 21: nothing wrong; K without C; C without a reseed, as an update leaves it; mark, reseed number, flag not 0; requests without C
+-- 21: nothing wrong, at the last step; K without C; C without a reseed, as an update leaves it; mark, reseed number, flag not 0; requests without C
 abbrev pub ClausesRow : Type 0
 ClausesRow =
     map malformed
-    (stateWith (replicate 32 emptyPool) (keyAndCount 0 0) 5 0 0 false 0 ∷ stateWith (replicate 32 emptyPool) (keyAndCount 1 0) 5 0 0 false 0
+    (stateWith (replicate 32 emptyPool) (keyAndCount 0 0) (2 ^ 64 - 1) 0 0 false 0
+    ∷ stateWith (replicate 32 emptyPool) (keyAndCount 1 0) 5 0 0 false 0
     ∷ stateWith (replicate 32 emptyPool) (keyAndCount 1 1) 5 0 0 false 1 ∷ stateWith (replicate 32 emptyPool) (keyAndCount 1 1) 5 1 0 false 0
     ∷ stateWith (replicate 32 emptyPool) (keyAndCount 1 1) 5 0 1 false 0 ∷ stateWith (replicate 32 emptyPool) (keyAndCount 1 1) 5 0 0 true 0
     ∷ stateWith (replicate 32 emptyPool) (keyAndCount 0 0) 5 0 0 false 1 ∷ [])
     ≡ false ∷ true ∷ false ∷ true ∷ true ∷ true ∷ true ∷ []
 
--- 21, the clauses on a pool, whichever pool it is: too long, a byte after the tail, another running hash below 64 bytes
+-- 21, the clauses on a pool: a full one at step 0; too long, a byte after the tail, another running hash below 64 bytes
 abbrev pub PoolClausesRow : Type 0
 PoolClausesRow =
     map malformed
-    (withPool 31 (sized (2 ^ 61 - 65)) 5 ∷ withPool 31 (sized (2 ^ 61 - 64)) 5
+    (withPool 31 (sized (2 ^ 61 - 65)) 0 ∷ withPool 31 (sized (2 ^ 61 - 64)) 5
     ∷ withPool 31 (record { chain = emptyPool .chain; tail = replicate 63 0 ++ (1 ∷ []); length = 5 }) 5
     ∷ withPool 31 (record { chain = replicate 8 0; tail = replicate 64 0; length = 63 }) 5
     ∷ withPool 31 (record { chain = replicate 8 0; tail = replicate 64 0; length = 64 }) 5 ∷ [])
@@ -174,9 +177,10 @@ UnseededRow =
 abbrev pub SpentCallsRow : Type 0
 SpentCallsRow =
     step (atStep 32 (2 ^ 128 - 3)) (request []) .number ∷ step (atStep 32 (2 ^ 128 - 2)) (request []) .number
+    ∷ step (atStep 32 (2 ^ 128 - 4)) (request (replicate 16 0)) .number ∷ step (atStep 32 (2 ^ 128 - 3)) (request (replicate 16 0)) .number
     ∷ step (atStep 32 (2 ^ 128 - 7)) (write page) .number ∷ step (atStep 32 (2 ^ 128 - 6)) (write page) .number
     ∷ step (atStep 32 (2 ^ 128 - 8)) (update page) .number ∷ step (atStep 32 (2 ^ 128 - 7)) (update page) .number ∷ []
-    ≡ 0 ∷ 24 ∷ 0 ∷ 24 ∷ 0 ∷ 24 ∷ []
+    ≡ 0 ∷ 24 ∷ 0 ∷ 24 ∷ 0 ∷ 24 ∷ 0 ∷ 24 ∷ []
 
 -- 22 before 45, by the pool that the last step picks, which is pool 17
 abbrev pub FullLastRow : Type 0
