@@ -41,12 +41,16 @@ loop-less c = search needs
 
 loop-again : tie.Need-loop-again Inv-loop μ-loop
 loop-again c =
-    let at = c .before .before .before .before .before .loop in
-    let start = c .before .before .before .before .before .before .before in
-    let below = c .before .before .before .before .loop-test .taken in
+    let checked = c .before in
+    let tested = checked .before .before .before in
+    let looped = tested .before in
+    let at = looped .loop in
+    let start = looped .before .before in
+    let below = tested .loop-test .taken in
+    let found = checked .pool-malformed .ensures in
     ⊎-elim
-    (λ w. checked-found (start .args .t1) _ (at .malformed) _ _ (at .k) (full start) below (c .before .pool-malformed .ensures) (at .inv) (w .0 .taken) (w .1))
-    (λ w. checked-passed (start .args .t1) _ (at .malformed) _ _ (at .k) (full start) below (c .before .pool-malformed .ensures) (at .inv) (w .0 .left) (w .1))
+    (λ w. checked-found (start .args .t1) _ (at .malformed) _ _ (at .k) (full start) below found (at .inv) (w .0 .taken) (w .1))
+    (λ w. checked-passed (start .args .t1) _ (at .malformed) _ _ (at .k) (full start) below found (at .inv) (w .0 .left) (w .1))
     (c .if1 .came)
 
 returns : tie.Need-returns Inv-loop μ-loop
