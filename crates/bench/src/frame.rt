@@ -3,7 +3,7 @@ ghost use Rattle.std.specs.Prelude.{◌≡◌, ◌+◌, ◌≤◌, length};
 ghost use Rattle.bench.specs.Frames.{big_endian16, big_endian32, event_frame, request_frame, update_frame, write_frame, wide_event_frame, frame_of};
 
 // A frame. An event's data are the bytes from place 3 on, a wide event's those from place 4 on, an update's seed those from place 5 on.
-#[derive(Drop)]
+#[derive(Clone, Copy)]
 pub enum Frame {
     Event { source: u32, pool: u32 },
     Request { clock: u32, count: u16 },

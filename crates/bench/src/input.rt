@@ -11,7 +11,7 @@ pub const LINE_BUFFER: usize = MAX_WIDE_LINE + 1;
 
 // The state, how many characters of the line so far are held, how many of the chunk were used, and how many were printed.
 #[repr(C)]
-#[derive(Drop)]
+#[derive(Clone, Copy)]
 pub struct StepOutcome {
     pub next: Fortuna,
     pub held: usize,

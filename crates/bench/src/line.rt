@@ -23,7 +23,7 @@ pub const MAX_OUTPUT: usize = 2 * 65535 + 7;
 
 // The state after a line, and how many characters the line printed.
 #[repr(C)]
-#[derive(Drop)]
+#[derive(Clone, Copy)]
 pub struct LineOutcome {
     pub next: Fortuna,
     pub written: usize,

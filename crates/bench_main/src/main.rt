@@ -1,4 +1,5 @@
 // The bench: carries out each line of standard input from a fresh state, and prints a line for each.
+#![tactic(auto)]
 use bench::input::{LINE_BUFFER, finish, step};
 use bench::line::MAX_OUTPUT;
 use libc::{EAGAIN, EINTR, STDERR_FILENO, STDIN_FILENO, STDOUT_FILENO};
@@ -6,7 +7,7 @@ use pools::Fortuna;
 
 // The state, how many characters of the line so far are held, and whether to read on. Where a read or a write failed, nothing
 // more is read and no line is held.
-#[derive(Drop)]
+#[derive(Clone, Copy)]
 struct Session {
     state: Fortuna,
     held: usize,

@@ -77,7 +77,7 @@ fn next_word(table: &[u8; 256], w: &[u8; 240], i: usize) -> [u8; 4]
 
 // An expanded key: 60 words, that is 15 round keys of 16 bytes.
 #[repr(C)]
-#[derive(Drop)]
+#[derive(Clone, Copy)]
 pub struct Schedule {
     pub words: [u8; 240],
 }

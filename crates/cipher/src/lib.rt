@@ -1,4 +1,5 @@
 // AES-256 encryption (FIPS 197).
+#![tactic(auto)]
 mod block;
 mod field;
 mod key;

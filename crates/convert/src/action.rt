@@ -8,7 +8,7 @@ use bench::frame::Frame;
 const MAX_NARROW_SOURCE: u32 = 255;
 
 // It stays; 01 becomes 05; 05 becomes 01; it is no frame; its source is too large for 01.
-#[derive(Drop)]
+#[derive(Clone, Copy)]
 pub enum Action {
     Keep,
     Widen,

@@ -3,7 +3,7 @@ ghost use Rattle.std.specs.Prelude.{◌≡◌, eqb};
 ghost use Rattle.convert.specs.Promises.{number};
 
 // Every line was converted; 16; 43; 46.
-#[derive(Drop)]
+#[derive(Clone, Copy)]
 pub enum Answer {
     Converted,
     NoFrame,

@@ -1,4 +1,5 @@
 // Call logs of both kinds (02 (xii)): event frames 01 become 05, or 05 become 01, line by line, into a lent buffer.
+#![tactic(auto)]
 mod action;
 mod answer;
 mod line;
@@ -11,7 +12,7 @@ pub use answer::Answer;
 use line::convert_first;
 
 // The number of the refused line, from 1, or 0 where none was refused; and how many bytes were written.
-#[derive(Drop)]
+#[derive(Clone, Copy)]
 pub struct Outcome {
     pub answer: Answer,
     pub line: usize,

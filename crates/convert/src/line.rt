@@ -10,14 +10,14 @@ use bench::line::frame_of_text;
 use laws::overwrite;
 
 // How many bytes were written.
-#[derive(Drop)]
+#[derive(Clone, Copy)]
 pub struct LineAnswer {
     pub answer: Answer,
     pub written: usize,
 }
 
 // The same, and how many of the log's bytes the line and its end are.
-#[derive(Drop)]
+#[derive(Clone, Copy)]
 pub struct FirstAnswer {
     pub answer: Answer,
     pub used: usize,

@@ -1,5 +1,6 @@
 // CTR_DRBG of NIST SP 800-90A (10.2.1) with AES-256 and no derivation function, for permanent stations. Its state has nothing to do
 // with pools or timer.
+#![tactic(auto)]
 mod answer;
 mod counter;
 mod output;
@@ -25,7 +26,7 @@ const RESEED_INTERVAL: u64 = 281474976710656;
 
 // Key, V and the reseed counter, which is 0 before the first seeding. Any bytes may stand in it.
 #[repr(C)]
-#[derive(Drop)]
+#[derive(Clone, Copy)]
 pub struct CtrDrbg {
     pub key: [u8; 32],
     pub v: [u8; 16],
@@ -33,7 +34,7 @@ pub struct CtrDrbg {
 }
 
 // The answer, and the state that follows.
-#[derive(Drop)]
+#[derive(Clone, Copy)]
 pub struct Outcome {
     pub answer: Answer,
     pub next: CtrDrbg,

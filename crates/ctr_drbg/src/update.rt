@@ -9,7 +9,7 @@ use crate::seed::xored;
 use laws::overwrite;
 
 // Key and V.
-#[derive(Drop)]
+#[derive(Clone, Copy)]
 pub struct Working {
     pub key: [u8; 32],
     pub v: [u8; 16],

@@ -10,7 +10,7 @@ use pools::{Answer, Fortuna};
 use slots::{bits_for, low_bits};
 
 // The answer, the pools emptied, the value drawn, and the state that follows.
-#[derive(Drop)]
+#[derive(Clone, Copy)]
 pub struct Draw {
     pub answer: Answer,
     pub emptied: u32,

@@ -7,7 +7,7 @@ use convert::convert;
 
 // 0 or the number that refused a line; that line's number, from 1, or 0; and how many bytes were written.
 #[repr(C)]
-#[derive(Drop)]
+#[derive(Clone, Copy)]
 pub struct FortunaConversion {
     pub number: u32,
     pub line: usize,

@@ -5,7 +5,7 @@ ghost use Rattle.generator.specs.Operations.{number, fresh, reseed_answer, resee
 use generator::{Generator, Outcome};
 
 #[repr(C)]
-#[derive(Drop)]
+#[derive(Clone, Copy)]
 pub struct FortunaGeneratorOutcome {
     pub number: u32,
     pub next: Generator,

@@ -7,7 +7,7 @@ use health::{Answer, HealthState, Outcome};
 
 // The refusal's number, or 0; whether the sample at the place fails each test. Place 0 and neither test where no sample failed.
 #[repr(C)]
-#[derive(Drop)]
+#[derive(Clone, Copy)]
 pub struct FortunaHealthAnswer {
     pub number: u32,
     pub repetition: bool,

@@ -8,7 +8,7 @@ use history::{Answer, entry_at};
 // 0 or 44; the event's source; whether an event was found; the place that was asked for; where the event's data start, and the next place.
 // Where no event was found the source is 0, and `from` and `next` are the place asked for.
 #[repr(C)]
-#[derive(Drop)]
+#[derive(Clone, Copy)]
 pub struct FortunaEntry {
     pub number: u32,
     pub source: u32,

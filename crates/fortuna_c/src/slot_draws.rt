@@ -10,7 +10,7 @@ use pools::Fortuna;
 
 // The refusal's number, or 0, how many pools were emptied, and the value, 0 where there is none.
 #[repr(C)]
-#[derive(Drop)]
+#[derive(Clone, Copy)]
 pub struct FortunaDraw {
     pub number: u32,
     pub emptied: u32,

@@ -11,7 +11,7 @@ use pools::{Fortuna, Gain, Outcome};
 
 // The refusal's number, or 0, and how many pools were emptied.
 #[repr(C)]
-#[derive(Drop)]
+#[derive(Clone, Copy)]
 pub struct FortunaAnswer {
     pub number: u32,
     pub emptied: u32,

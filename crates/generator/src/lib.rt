@@ -1,4 +1,5 @@
 // The Fortuna generator (004, 9.4): a key and a counter that give blocks of the cipher. It ships alone.
+#![tactic(auto)]
 mod answer;
 mod counter;
 mod output;
@@ -19,14 +20,14 @@ pub use sizes::max_request;
 
 // Key and counter; the counter is held least significant byte first, and 0 means unseeded.
 #[repr(C)]
-#[derive(Drop)]
+#[derive(Clone, Copy)]
 pub struct Generator {
     pub key: [u8; 32],
     pub counter: [u8; 16],
 }
 
 // The answer, and the state that follows.
-#[derive(Drop)]
+#[derive(Clone, Copy)]
 pub struct Outcome {
     pub answer: Answer,
     pub next: Generator,

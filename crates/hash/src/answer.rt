@@ -3,14 +3,14 @@ ghost use Rattle.std.specs.Prelude.{◌≡◌, ◌+◌, replicate, nat_lt};
 ghost use Rattle.hash.specs.ShaD.{max_d_message, max_pool_length};
 ghost use Rattle.hash.specs.Answers.{number};
 
-#[derive(Drop)]
+#[derive(Clone, Copy)]
 pub enum Answer {
     Done,
     TooLong,
 }
 
 // The answer and the digest, zeros where the message is refused.
-#[derive(Drop)]
+#[derive(Clone, Copy)]
 pub struct Hashed {
     pub answer: Answer,
     pub digest: [u8; 32],

@@ -9,7 +9,7 @@ use crate::word::{big_sigma0, big_sigma1, choice, majority, sigma0, sigma1};
 use std::num::wrapping_add_u32;
 
 // The working variables.
-#[derive(Drop)]
+#[derive(Clone, Copy)]
 pub struct Working {
     pub a: u32,
     pub b: u32,

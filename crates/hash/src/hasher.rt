@@ -15,7 +15,7 @@ use crate::tail::{filled, with_length};
 // The hash value over the whole blocks so far, the bytes after them with zeros behind, and the count of all bytes. A pool's hash
 // value is over the block of zeros too, which its count leaves out.
 #[repr(C)]
-#[derive(Drop)]
+#[derive(Clone, Copy)]
 pub struct Hasher {
     pub chain: [u32; 8],
     pub tail: [u8; 64],
@@ -23,7 +23,7 @@ pub struct Hasher {
 }
 
 // The answer and the next state.
-#[derive(Drop)]
+#[derive(Clone, Copy)]
 pub struct Absorbed {
     pub answer: Answer,
     pub next: Hasher,

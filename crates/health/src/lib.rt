@@ -1,5 +1,6 @@
 // Health tests of a noise source: the repetition count test and the adaptive proportion test of NIST SP 800-90B (4.4.1, 4.4.2), over a lent run
 // of samples (02 (vi)). They stand before samples become events, and have nothing to do with a station's state.
+#![tactic(auto)]
 mod refusals;
 mod sample;
 
@@ -13,7 +14,7 @@ use crate::sample::{count_after, noted, run_after};
 // Between two samples: the last one and how often it has come in a row; the first of the window, how often it has come there, and how many
 // samples the window has.
 #[repr(C)]
-#[derive(Drop)]
+#[derive(Clone, Copy)]
 pub struct HealthState {
     pub last: u32,
     pub run: u32,
@@ -23,7 +24,7 @@ pub struct HealthState {
 }
 
 // Every sample passed; the first that failed, by its place and the tests that it failed; 34; 35.
-#[derive(Drop)]
+#[derive(Clone, Copy)]
 pub enum Answer {
     Passed,
     Failed {
@@ -53,7 +54,7 @@ impl Answer {
     }
 }
 
-#[derive(Drop)]
+#[derive(Clone, Copy)]
 pub struct Outcome {
     pub answer: Answer,
     pub next: HealthState,

@@ -3,7 +3,7 @@ ghost use Rattle.std.specs.Prelude.{◌≡◌};
 ghost use Rattle.history.specs.Reader.{number};
 
 // An event, whose data are the bytes from `from` up to `next`, the next place; the end of the string; or 44, with the place.
-#[derive(Drop)]
+#[derive(Clone, Copy)]
 pub enum Answer {
     Found {
         source: u32,

@@ -1,4 +1,5 @@
 // Fortuna with the pools chosen by key: the scheduler of source document 000, figure 6.
+#![tactic(auto)]
 mod refusals;
 mod scheduler;
 
@@ -23,7 +24,7 @@ use scheduler::{empties, output_pool};
 // requests on one key: those accepted since the last emptying or the fresh start, seed calls included, stopping at 65,535. 01's mark, reseed
 // number and flag (last_reseed, reseed_count, reseeded) stay at 0: no clock applies.
 #[repr(C)]
-#[derive(Drop)]
+#[derive(Clone, Copy)]
 pub struct Keyed {
     pub generator: Generator,
     pub pools: [Hasher; 32],
@@ -36,7 +37,7 @@ pub struct Keyed {
 }
 
 // The answer, the pools emptied, and the state that follows.
-#[derive(Drop)]
+#[derive(Clone, Copy)]
 pub struct Outcome {
     pub answer: Answer,
     pub emptied: u32,

@@ -11,7 +11,7 @@ use quotas::Quota;
 
 // An event that the state has answered, and the list not yet: its number without 38 and 39, what it costs, the pool that it finds, and
 // what it comes to where the list lets it pass.
-#[derive(Drop)]
+#[derive(Clone, Copy)]
 struct Known {
     number: u32,
     cost: u32,

@@ -10,7 +10,7 @@ use quotas::Quota;
 
 // An event that the state has answered, and the list not yet: its number without 38 and 39, what it costs, and what it comes to where the
 // list lets it pass.
-#[derive(Drop)]
+#[derive(Clone, Copy)]
 struct KeyedKnown {
     number: u32,
     cost: u32,

@@ -1,4 +1,5 @@
 // Fortuna: the generator with 32 pools, the timer of the pool reseeds, and seeds (004, 9.5 and 9.6).
+#![tactic(auto)]
 mod answer;
 mod events;
 mod refusals;
@@ -33,7 +34,7 @@ use well_formed::{fields_malformed, masks, pool_malformed};
 // key_requests is 02's number of requests on one key: the accepted requests, seed calls and single tries included, since the last
 // pool reseed or the fresh start, stopping at 65,535.
 #[repr(C)]
-#[derive(Drop)]
+#[derive(Clone, Copy)]
 pub struct Fortuna {
     pub generator: Generator,
     pub pools: [Hasher; 32],
@@ -44,7 +45,7 @@ pub struct Fortuna {
 }
 
 // The answer, the pools emptied, and the state that follows.
-#[derive(Drop)]
+#[derive(Clone, Copy)]
 pub struct Outcome {
     pub answer: Answer,
     pub emptied: u32,
@@ -52,7 +53,7 @@ pub struct Outcome {
 }
 
 // What an event comes to: its answer, and the one pool to store.
-#[derive(Drop)]
+#[derive(Clone, Copy)]
 pub struct Gain {
     pub answer: Answer,
     pub place: usize,
@@ -60,7 +61,7 @@ pub struct Gain {
 }
 
 // What an accepted call leaves.
-#[derive(Drop)]
+#[derive(Clone, Copy)]
 struct Served {
     emptied: u32,
     next: Fortuna,

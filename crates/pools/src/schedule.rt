@@ -22,7 +22,7 @@ pub(crate) fn is_due(size: u64, made: bool, last: u32, clock: u32) -> bool
 }
 
 // The pools after a reseed, the digests of those that it emptied in front of `seed`, and how many those are.
-#[derive(Drop)]
+#[derive(Clone, Copy)]
 pub(crate) struct Collected {
     pub(crate) pools: [Hasher; 32],
     pub(crate) seed: [u8; 1024],

@@ -1,4 +1,5 @@
 // A lent list of quotas (02 (x)): for each source its allowance in bytes and the bytes spent.
+#![tactic(auto)]
 ghost use Rattle.std.specs.Prelude.{◌≡◌, ◌<◌, ◌+◌, ◌^◌};
 ghost use Rattle.quotas.specs.Records.{place_from, quotas_number, charged_by, unspent, cleared};
 ghost use Rattle.quotas.specs.Charges.{comes_first, verdict_of, unlisted_of, charge_number, charge_list, cleared_after};
@@ -8,7 +9,7 @@ ghost use Rattle.quotas.specs.Charges.{first_bound, start_at, bound_after, fault
 const MAX_QUOTAS: usize = 64;
 
 #[repr(C)]
-#[derive(Drop)]
+#[derive(Clone, Copy)]
 pub struct Quota {
     pub source: u32,
     pub allowance: u32,
@@ -75,7 +76,7 @@ fn charged_by(r: Quota, cost: u32) -> Quota
 }
 
 // What an event comes to: its number, and its source's record afterwards.
-#[derive(Drop)]
+#[derive(Clone, Copy)]
 struct Verdict {
     number: u32,
     after: Quota,

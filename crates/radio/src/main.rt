@@ -1,4 +1,5 @@
 // The example of the README: a polling list is shuffled and a slot is drawn for each station. Writes the list, then the slots, a byte each.
+#![tactic(auto)]
 use draws::{random_below, shuffle};
 use pools::Fortuna;
 

@@ -1,4 +1,5 @@
 // The example of the README: 48 bytes drawn from a seed with the generator alone.
+#![tactic(auto)]
 fn main() {
     let seeded = generator::Generator::new().reseed(b"synthetic tremor, run 17");
     let state = seeded.next;

@@ -4,6 +4,7 @@
 // What is printed is the title, a colon, and the answer. Where the first letter is a capital, there is no title, and nothing is
 // printed: the line sets a state for later ones. tests/independent/vectors.py writes the cases, and works out
 // the answers without this program.
+#![tactic(auto)]
 mod ciphers;
 mod generators;
 mod hashes;
@@ -21,7 +22,7 @@ use text::decode;
 const MOST: usize = 1024;
 
 // What lines leave for later ones: a running hash and a generator.
-#[derive(Drop)]
+#[derive(Clone, Copy)]
 struct Held {
     hasher: Hasher,
     generator: Generator,

@@ -85,7 +85,7 @@ fn grow(words: &mut [u32; 60])
 
 // An expanded key as words: 15 round keys of four.
 #[repr(C)]
-#[derive(Drop)]
+#[derive(Clone, Copy)]
 pub struct Schedule {
     pub words: [u32; 60],
 }
