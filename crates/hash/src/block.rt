@@ -21,7 +21,7 @@ pub struct Working {
     pub h: u32,
 }
 
-const K: [u32; 64] = [
+const ROUND_CONSTANTS: [u32; 64] = [
     0x428a_2f98,
     0x7137_4491,
     0xb5c0_fbcf,
@@ -92,7 +92,7 @@ const K: [u32; 64] = [
 pub(crate) fn constants() -> [u32; 64]
     ensures { result ≡ K }
 {
-    K
+    ROUND_CONSTANTS
 }
 
 // The word of four bytes, the first the most significant.

@@ -1,0 +1,7 @@
+use borrow.Author.Rules.{rules}
+use Rattle.cipher.specs.Aes.{round}
+use Rattle.cipher.proofs.block.round.Goals as goal
+
+pub returns : goal.returns
+unfolding round
+returns c = cc

@@ -1,0 +1,6 @@
+use borrow.Author.Rules.{rules}
+use Rattle.cipher.proofs.FieldClaims.{s-box-rule}
+use Rattle.cipher.proofs.field.sub_byte.Goals as goal
+
+pub returns : goal.returns
+returns c = rw c.requires (s-box-rule c.args.x (search rules))

@@ -1,0 +1,5 @@
+use borrow.Author.Rules.{rules}
+use Rattle.cipher.proofs.key.sub_word.Goals as goal
+
+pub returns : goal.returns
+returns c = cc

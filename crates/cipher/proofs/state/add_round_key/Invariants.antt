@@ -1,0 +1,14 @@
+use Prim.Native.Nat.{◌+◌, ◌*◌, ◌-◌}
+use mathlib.Core.Path.{refl}
+use lib.ListN.{replicate}
+use borrow.Author.Rules.{rules}
+use Rattle.laws.proofs.Tabulate.{Filled, filled_none, filled_more, filled-all}
+use Rattle.cipher.specs.Field.{◌⊕◌}
+use Rattle.cipher.specs.Aes.{at, add_round_key}
+use Rattle.cipher.proofs.state.add_round_key.Given as goal
+
+abbrev pub invariant-loop-i : goal.invariant-loop-i
+invariant-loop-i l = Filled (λ j. at l.state j ⊕ at l.schedule (16 * l.n + j)) 16 l.r l.i
+
+abbrev pub decreases-loop-i : goal.decreases-loop-i
+decreases-loop-i l = 16 - l.i

@@ -1,0 +1,13 @@
+use Prim.Native.Nat.{◌+◌, ◌*◌, ◌%◌, ◌-◌}
+use mathlib.Core.Path.{refl}
+use lib.ListN.{replicate}
+use borrow.Author.Rules.{rules}
+use Rattle.laws.proofs.Tabulate.{Filled, filled_none, filled_more, filled-all}
+use Rattle.cipher.specs.Aes.{at, shift_rows}
+use Rattle.cipher.proofs.state.shift_rows.Given as goal
+
+abbrev pub invariant-loop-i : goal.invariant-loop-i
+invariant-loop-i l = Filled (λ j. at l.state ((j + 4 * (j % 4)) % 16)) 16 l.r l.i
+
+abbrev pub decreases-loop-i : goal.decreases-loop-i
+decreases-loop-i l = 16 - l.i

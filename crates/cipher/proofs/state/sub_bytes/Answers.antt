@@ -1,0 +1,18 @@
+use Prim.Native.Nat.{◌-◌}
+use mathlib.Core.Path.{refl}
+use lib.ListN.{replicate}
+use borrow.Author.Rules.{rules}
+use Rattle.laws.proofs.Tabulate.{Filled, filled_none, filled_more, filled-all}
+use Rattle.cipher.specs.Field.{sub_byte}
+use Rattle.cipher.specs.Aes.{at, sub_bytes}
+use Rattle.cipher.proofs.state.sub_bytes.Goals as goal
+
+pub loop-i-init : goal.loop-i-init
+loop-i-init c = filled_none _ 16 (replicate 16 0) refl
+
+pub loop-i-preserved : goal.loop-i-preserved
+loop-i-preserved c = filled_more _ 16 _ _ _ c.loop-i.invariant (search rules) c.sub_byte.ensures
+
+pub returns : goal.returns
+unfolding sub_bytes
+returns c = filled-all _ 16 _ _ c.loop-i.invariant (search rules)

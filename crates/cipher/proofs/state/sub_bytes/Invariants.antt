@@ -1,0 +1,14 @@
+use Prim.Native.Nat.{◌-◌}
+use mathlib.Core.Path.{refl}
+use lib.ListN.{replicate}
+use borrow.Author.Rules.{rules}
+use Rattle.laws.proofs.Tabulate.{Filled, filled_none, filled_more, filled-all}
+use Rattle.cipher.specs.Field.{sub_byte}
+use Rattle.cipher.specs.Aes.{at, sub_bytes}
+use Rattle.cipher.proofs.state.sub_bytes.Given as goal
+
+abbrev pub invariant-loop-i : goal.invariant-loop-i
+invariant-loop-i l = Filled (λ j. sub_byte (at l.state j)) 16 l.r l.i
+
+abbrev pub decreases-loop-i : goal.decreases-loop-i
+decreases-loop-i l = 16 - l.i

@@ -1,0 +1,5 @@
+use Rattle.std.proofs.Common.{rules}
+use Rattle.hash.proofs.block.added.Goals as goal
+
+pub returns : goal.returns
+returns c = cc

@@ -1,0 +1,7 @@
+use Rattle.hash.specs.Block.{next_word}
+use Rattle.std.proofs.Common.{rules}
+use Rattle.hash.proofs.block.next_word.Goals as goal
+
+pub returns : goal.returns
+unfolding next_word
+returns c = cc

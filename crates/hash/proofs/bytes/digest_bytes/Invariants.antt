@@ -1,0 +1,10 @@
+use Rattle.std.proofs.Common.{◌-◌, replicate, arith, rules}
+use Rattle.laws.proofs.Tabulate.{Filled, filled_none, filled_more, filled-all}
+use Rattle.hash.specs.Sha256.{words_byte}
+use Rattle.hash.proofs.bytes.digest_bytes.Given as goal
+
+abbrev pub invariant-loop-i : goal.invariant-loop-i
+invariant-loop-i l = Filled (words_byte l.h) 32 l.d l.i
+
+abbrev pub decreases-loop-i : goal.decreases-loop-i
+decreases-loop-i l = 32 - l.i

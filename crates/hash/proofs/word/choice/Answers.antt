@@ -1,0 +1,10 @@
+use Rattle.std.proofs.Common.{◌^◌, ◌<◌, sym, rules}
+use Rattle.hash.proofs.Bitwise.{ch-same}
+use Rattle.hash.proofs.word.choice.Goals as goal
+
+pub returns : goal.returns
+returns c =
+    let hx : c.args.x < 2 ^ 32 = search rules in
+    let hy : c.args.y < 2 ^ 32 = search rules in
+    let hz : c.args.z < 2 ^ 32 = search rules in
+    sym (ch-same 32 c.args.x c.args.y c.args.z hx hy hz)

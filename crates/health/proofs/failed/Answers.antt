@@ -1,0 +1,7 @@
+use Rattle.health.specs.Calls.{fresh, failed_at}
+use borrow.Author.Rules.{rules}
+use Rattle.health.proofs.failed.Goals as goal
+
+pub returns : goal.returns
+unfolding failed_at fresh
+returns c = rw c.new.ensures
