@@ -8,7 +8,7 @@ use lib.ListN.{length}
 use Rattle.laws.proofs.Tabulate.{length-tabulate}
 use Rattle.cipher.specs.Aes.{add_round_key, cipher_with, key_expansion, cipher}
 pub use Rattle.cipher.proofs.Bytes.{bytes-key-expansion}
-use Rattle.cipher.proofs.Schedule.{length-expand}
+use Rattle.cipher.proofs.ScheduleLaws.{length-expand}
 
 -- A block is 16 bytes.
 pub length-cipher : (key block : List ℕ) → length (cipher key block) ≡ 16

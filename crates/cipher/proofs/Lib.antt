@@ -1,6 +1,6 @@
 pub mod FieldClaims
 pub mod StateClaims
-pub mod Schedule
+pub mod ScheduleLaws
 pub mod Bytes
 pub mod Laws
 pub mod Rows

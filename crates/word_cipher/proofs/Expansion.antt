@@ -14,7 +14,7 @@ use Rattle.laws.proofs.Tabulate.{length-tabulate, get_d_tabulate, Filled}
 use Rattle.cipher.specs.Field.{◌⊕◌, sub_byte}
 use Rattle.cipher.specs.Aes.{at, Bytes, word_at, xor_word, sub_word, rot_word, rcon, x_power, temp, next_word, key_expansion}
 use Rattle.cipher.proofs.Bytes.{bytes-xor-word, bytes-sub-word, bytes-rcon, bytes-word-at, bytes-key-expansion}
-use Rattle.cipher.proofs.Schedule.{key-front, next-at}
+use Rattle.cipher.proofs.ScheduleLaws.{key-front, next-at}
 use Rattle.word_cipher.specs.Words.{word, byte_of, word_in, packed}
 use Rattle.word_cipher.specs.Schedule.{sub_words, rotated_temp, four_more, Expands}
 use Rattle.word_cipher.proofs.Words.{xor-word, word-ext, bytes-in, packed-at}

@@ -3,11 +3,11 @@ use mathlib.Core.Path.{◌≡◌, refl, ap, ◌∙◌}
 use lib.ListN.{length, take, replicate}
 use borrow.Author.Rules.{rules}
 use Rattle.cipher.specs.Aes.{key_expansion}
-use Rattle.cipher.proofs.Schedule.{Expanded, expanded-none, key-first, expanded-more, expanded-all}
+use Rattle.cipher.proofs.ScheduleLaws.{Expanded, expanded-none, key-first, expanded-more, expanded-all}
 use Rattle.cipher.proofs.key.expand_key.Goals as goal
 
 pub loop-i-init : goal.loop-i-init
-loop-i-init c = expanded-none c.overwrite.new.0 (search rules)
+loop-i-init c = expanded-none c.overwrite.new.out (search rules)
 
 pub loop-i-preserved : goal.loop-i-preserved
 loop-i-preserved c =
@@ -16,7 +16,7 @@ loop-i-preserved c =
 
 pub returns : goal.returns
 returns c =
-    let key = c.args.t1 in
+    let key = c.args.key in
     let k : length key ≡ 32 = search rules in
     expanded-all _ _ _ c.loop-i.invariant (search rules)
     ∙ ap key_expansion (ap (take 32) c.overwrite.ensures ∙ key-first (replicate 240 0) key refl k)

@@ -1,0 +1,7 @@
+use Rattle.word_cipher.specs.Cipher.{substituted}
+use borrow.Author.Rules.{rules}
+use Rattle.word_cipher.proofs.block.substituted.Goals as goal
+
+pub returns : goal.returns
+unfolding substituted
+returns c = c.byte_of.ensures

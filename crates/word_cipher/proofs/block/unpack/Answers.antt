@@ -1,0 +1,18 @@
+use Prim.Native.Nat.{◌-◌, ◌/◌, ◌%◌}
+use mathlib.Core.Path.{refl}
+use lib.ListN.{replicate}
+use Rattle.laws.proofs.Tabulate.{Filled, filled_none, filled_more, filled-all}
+use Rattle.cipher.specs.Aes.{at}
+use Rattle.word_cipher.specs.Words.{byte_of, unpacked}
+use borrow.Author.Rules.{rules}
+use Rattle.word_cipher.proofs.block.unpack.Goals as goal
+
+pub loop-i-init : goal.loop-i-init
+loop-i-init c = filled_none _ 16 (replicate 16 0) refl
+
+pub loop-i-preserved : goal.loop-i-preserved
+loop-i-preserved c = filled_more _ 16 _ _ _ c.loop-i.invariant (search rules) c.byte_of.ensures
+
+pub returns : goal.returns
+unfolding unpacked
+returns c = filled-all _ 16 _ _ c.loop-i.invariant (search rules)

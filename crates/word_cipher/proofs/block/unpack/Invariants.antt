@@ -1,0 +1,14 @@
+use Prim.Native.Nat.{◌-◌, ◌/◌, ◌%◌}
+use mathlib.Core.Path.{refl}
+use lib.ListN.{replicate}
+use Rattle.laws.proofs.Tabulate.{Filled, filled_none, filled_more, filled-all}
+use Rattle.cipher.specs.Aes.{at}
+use Rattle.word_cipher.specs.Words.{byte_of, unpacked}
+use borrow.Author.Rules.{rules}
+use Rattle.word_cipher.proofs.block.unpack.Given as goal
+
+abbrev pub invariant-loop-i : goal.invariant-loop-i
+invariant-loop-i l = Filled (λ j. byte_of (at l.u (j / 4)) (j % 4)) 16 l.r l.i
+
+abbrev pub decreases-loop-i : goal.decreases-loop-i
+decreases-loop-i l = 16 - l.i

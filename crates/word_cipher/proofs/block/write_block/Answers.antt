@@ -1,0 +1,5 @@
+use borrow.Author.Rules.{rules}
+use Rattle.word_cipher.proofs.block.write_block.Goals as goal
+
+pub returns : goal.returns
+returns c = cc
