@@ -1,0 +1,14 @@
+use Prim.Native.Nat.{◌-◌}
+use mathlib.Core.Path.{refl}
+use lib.Bits.{bit_xor}
+use lib.ListN.{get_or, replicate}
+use Rattle.laws.proofs.Tabulate.{Filled, filled_none, filled_more, filled-all}
+use Rattle.ctr_drbg.specs.Algorithms.{seed_length, xored}
+use borrow.Author.Rules.{rules}
+use Rattle.ctr_drbg.proofs.seed.xored.Given as goal
+
+abbrev pub invariant-loop-i : goal.invariant-loop-i
+invariant-loop-i l = Filled (λ j. bit_xor (get_or l.s j 0) (get_or l.t j 0)) 48 l.r l.i
+
+abbrev pub decreases-loop-i : goal.decreases-loop-i
+decreases-loop-i l = 48 - l.i
