@@ -1,0 +1,17 @@
+use Prim.Native.Nat.{◌-◌}
+use native.Mathlib.Omega.{arith}
+use Rattle.slots.proofs.LeastBits.{Searched, searched-none, searched-found, searched-more, searched-all}
+use borrow.Author.Rules.{rules}
+use Rattle.slots.proofs.bits.bits_for.Goals as goal
+
+pub loop-k-init : goal.loop-k-init
+loop-k-init c = searched-none c.args.n
+
+pub returns-then-n-power : goal.returns-then-n-power
+returns-then-n-power c = searched-found _ _ c.loop-k.invariant (omega arith)
+
+pub loop-k-preserved : goal.loop-k-preserved
+loop-k-preserved c = searched-more _ _ c.loop-k.invariant (omega arith) (omega arith)
+
+pub returns : goal.returns
+returns c = searched-all _ _ c.loop-k.invariant (omega arith)

@@ -1,0 +1,14 @@
+use mathlib.Core.Path.{◌≡◌, refl, sym, ◌∙◌}
+use Prim.Native.Nat.{◌-◌}
+use native.Mathlib.Omega.{arith}
+use lib.ListN.{length, drop}
+use Rattle.slots.specs.Shuffle.{has_repeat}
+use Rattle.slots.proofs.NoRepeat.{repeat-here, repeat_past, repeat-end}
+use borrow.Author.Rules.{rules}
+use Rattle.slots.proofs.repeats.has_repeat.Given as goal
+
+abbrev pub invariant-loop-i : goal.invariant-loop-i
+invariant-loop-i l = has_repeat l.list ≡ has_repeat (drop l.i l.list)
+
+abbrev pub decreases-loop-i : goal.decreases-loop-i
+decreases-loop-i l = length l.list - l.i
