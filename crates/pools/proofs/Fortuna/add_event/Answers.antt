@@ -1,0 +1,16 @@
+use Rattle.std.proofs.Common.{sym, rules}
+use Rattle.pools.specs.Effects.{with_pool}
+use Rattle.pools.proofs.EventCalls.{gain-place}
+use Rattle.pools.proofs.Fortuna.add_event.Goals as goal
+
+pub offset_bounds-self-place : goal.offset_bounds-self-place
+offset_bounds-self-place c = search (rules, gain-place _ _ c.gain_of-gain.ensures.2)
+
+pub bounds-self-place : goal.bounds-self-place
+bounds-self-place c = search (rules, gain-place _ _ c.gain_of-gain.ensures.2)
+
+pub returns : goal.returns
+unfolding with_pool
+returns c =
+    let given = c.gain_of-gain.ensures in
+    (given.0, sym given.1, given.3)
