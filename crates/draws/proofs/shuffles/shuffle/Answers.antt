@@ -25,4 +25,7 @@ returns-then-list-gt1 c =
 pub returns : goal.returns
 returns c =
     let a = c.args in
-    ?
+    ⊎_elim
+    (λ w. shuffle-short a.state a.clock a.list.now _ _ c.shuffle_answer-answer.ensures c.is_done.ensures w.0 w.1)
+    (λ w. shuffle-kept a.state a.clock a.list.now _ _ c.shuffle_answer-answer.ensures c.is_done.ensures w)
+    c.else-is_done.either

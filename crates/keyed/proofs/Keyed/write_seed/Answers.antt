@@ -1,0 +1,27 @@
+use Rattle.keyed.specs.Calls.{write, input_buffer}
+use Rattle.keyed.proofs.Outcomes.{is-accepted, gives-done, gives-kept}
+use Rattle.keyed.proofs.Requests.{write-servable, write-effect, write-number}
+use borrow.Author.Rules.{rules}
+use Rattle.keyed.proofs.Keyed.write_seed.Goals as goal
+
+pub serve-next-requires : goal.serve-next-requires
+serve-next-requires c =
+    let a = c.args in
+    let number = write-number a.self _ _ c.is_malformed-malformed.ensures a.seed.now c.write_answer-answer.ensures in
+    write-servable a.self a.seed.now
+    (is-accepted a.self (write a.seed.now) _ _ number c.is_done.ensures c.if-is_done.true)
+
+pub returns-then-is_done : goal.returns-then-is_done
+returns-then-is_done c =
+    let a = c.args in
+    let number = write-number a.self _ _ c.is_malformed-malformed.ensures a.seed.now c.write_answer-answer.ensures in
+    let ok = is-accepted a.self (write a.seed.now) _ _ number c.is_done.ensures c.if-is_done.true in
+    gives-done a.self (write a.seed.now) _ _ number c.is_done.ensures _ _ _ c.if-is_done.true
+    (write-effect a.self a.seed.now ok _ _ c.serve-next.ensures)
+
+pub returns-else-is_done : goal.returns-else-is_done
+unfolding input_buffer
+returns-else-is_done c =
+    let a = c.args in
+    let number = write-number a.self _ _ c.is_malformed-malformed.ensures a.seed.now c.write_answer-answer.ensures in
+    gives-kept a.self (write a.seed.now) _ _ number c.is_done.ensures c.if-is_done.false

@@ -1,0 +1,11 @@
+use Prim.Native.Nat.{◌-◌, ◌≤◌, ◌<◌}
+use native.Mathlib.Omega.{arith}
+use Rattle.keyed.proofs.Outputs.{Passed, passed_none, passed-some, passed-room, passed-more, passed-end, passed-all}
+use borrow.Author.Rules.{rules}
+use Rattle.keyed.proofs.scheduler.output_pool.Given as goal
+
+abbrev pub invariant-loop-i : goal.invariant-loop-i
+invariant-loop-i l = Passed l.t l.i l.power
+
+abbrev pub decreases-loop-i : goal.decreases-loop-i
+decreases-loop-i l = 31 - l.i
