@@ -1,0 +1,15 @@
+use borrow.Author.Rules.{rules}
+use Rattle.keyed.specs.Calls.{update, input_buffer, input_number}
+use Rattle.metered.proofs.KeyedGating.{gate-shut, gate-open}
+use Rattle.metered.proofs.keyed_gates.gated_keyed_update.Goals as goal
+
+pub returns-then-fault-ne0 : goal.returns-then-fault-ne0
+unfolding input_buffer input_number
+returns-then-fault-ne0 c =
+    let a = c.args in
+    gate-shut a.fault a.state (update a.seed.now) c.if-fault-ne0.true _ c.update_input.ensures _ c.keyed_refused.ensures
+
+pub returns : goal.returns
+returns c =
+    let a = c.args in
+    rw (gate-open a.fault a.state (update a.seed.now) c.if-fault-ne0.false) c.update_seed.ensures
