@@ -3,5 +3,4 @@ pub mod KeyedGating
 pub mod EventNumbers
 pub mod Eventing
 pub mod KeyedEventing
-pub mod Buffered
-pub mod KeyedBuffered
+pub mod GatedCalls

@@ -1,0 +1,44 @@
+use mathlib.Core.Path.{sym, ◌∙◌}
+use native.Mathlib.Omega.{arith}
+use borrow.Author.Rules.{rules}
+use Rattle.bench.proofs.Frames.{event-call, request-call, update-call, write-call, wide-event-call, invalid-call}
+use Rattle.bench.proofs.line.execute.Goals as goal
+
+pub slice_bounds-event_line-count : goal.slice_bounds-event_line-count
+slice_bounds-event_line-count c =
+    let call = event-call _ (sym c.parse-frame.ensures ∙ c.frame-1.given.1) in
+    omega (arith, call.0)
+
+pub slice_bounds-update_line-count : goal.slice_bounds-update_line-count
+slice_bounds-update_line-count c =
+    let call = update-call _ (sym c.parse-frame.ensures ∙ c.frame-in-Update-1.given.1) in
+    omega (arith, call.0)
+
+pub slice_bounds-event_line-count-in-WideEvent : goal.slice_bounds-event_line-count-in-WideEvent
+slice_bounds-event_line-count-in-WideEvent c =
+    let call = wide-event-call _ (sym c.parse-frame.ensures ∙ c.frame-in-WideEvent-1.given.1) in
+    omega (arith, call.0)
+
+pub returns-in-Event : goal.returns-in-Event
+returns-in-Event c =
+    rw (event-call _ (sym c.parse-frame.ensures ∙ c.frame-1.given.1)).1 c.event_line.ensures
+
+pub returns-in-Request : goal.returns-in-Request
+returns-in-Request c =
+    rw (request-call _ (sym c.parse-frame.ensures ∙ c.frame-in-Request-1.given.1)) c.request_line.ensures
+
+pub returns-in-Update : goal.returns-in-Update
+returns-in-Update c =
+    rw (update-call _ (sym c.parse-frame.ensures ∙ c.frame-in-Update-1.given.1)).1 c.update_line.ensures
+
+pub returns-in-Write : goal.returns-in-Write
+returns-in-Write c =
+    rw (write-call _ (sym c.parse-frame.ensures ∙ c.frame-in-Write-1.given.1)) c.write_line.ensures
+
+pub returns-in-WideEvent : goal.returns-in-WideEvent
+returns-in-WideEvent c =
+    rw (wide-event-call _ (sym c.parse-frame.ensures ∙ c.frame-in-WideEvent-1.given.1)).1 c.event_line-in-WideEvent.ensures
+
+pub returns-in-Invalid : goal.returns-in-Invalid
+returns-in-Invalid c =
+    rw (invalid-call _ (sym c.parse-frame.ensures ∙ c.in-Invalid.is)) c.invalid_line.ensures

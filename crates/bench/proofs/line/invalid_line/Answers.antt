@@ -1,0 +1,7 @@
+use borrow.Author.Rules.{rules}
+use Rattle.bench.proofs.Executed.{invalid-prints}
+use Rattle.bench.proofs.line.invalid_line.Goals as goal
+
+pub returns : goal.returns
+returns c =
+    invalid-prints c.args.state _ c.args.out.now _ c.requires c.number_line-written.ensures
