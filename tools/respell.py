@@ -24,6 +24,7 @@ OTHER = {
     "noLine": "absent_line",  # a lemma of convert is no_line
     "step_Block": "step_block",
 }
+STRING = r'"(?:[^"\\]|\\.)*"'
 NAME = re.compile(r"(?<![A-Za-z0-9_])[a-z][a-z0-9_]*[A-Z][A-Za-z0-9_]*")
 
 
@@ -56,11 +57,7 @@ def main():
     for path in texts():
         with open(path, encoding="utf-8") as f:
             old = f.read()
-        if path.endswith(".rt"):
-            # strings stay; a name of this form is nowhere else in code
-            new = re.sub(r'"(?:[^"\\]|\\.)*"|' + NAME.pattern, lambda m: m.group(0) if m.group(0)[0] == '"' else turn(m), old)
-        else:
-            new = NAME.sub(turn, old)
+        new = re.sub(STRING + "|" + NAME.pattern, lambda m: m.group(0) if m.group(0)[0] == '"' else turn(m), old)
         if new != old and "--list" not in sys.argv:
             with open(path, "w", encoding="utf-8") as f:
                 f.write(new)

@@ -18,7 +18,7 @@ ascii (Text.◌∷◌ c text) = code c ∷ ascii text
 -- ---- 01's example
 
 unfoldable pub example_input : List ℕ
-example_input = ascii "010703A1B2\n0107200_a\n010703\n02000000000010\n0400000000\n0300000000\n0_g\n"
+example_input = ascii "010703A1B2\n0107200A\n010703\n02000000000010\n0400000000\n0300000000\n0G\n"
 
 -- the frames of its lines
 abbrev pub ExampleFramesRow : Type 0

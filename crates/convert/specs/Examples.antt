@@ -83,7 +83,7 @@ came_to written number line = record { written = written; number = number; line 
 abbrev pub EdgesRow : Type 0
 EdgesRow =
     map (conversion true 100)
-    ([] ∷ ascii "\n" ∷ ascii "010703A1\n" ∷ ascii "010703A1" ∷ ascii "010703A1\r\n" ∷ ascii "010703A1\n\n010703_a1\n" ∷ [])
+    ([] ∷ ascii "\n" ∷ ascii "010703A1\n" ∷ ascii "010703A1" ∷ ascii "010703A1\r\n" ∷ ascii "010703A1\n\n010703A1\n" ∷ [])
     ≡ came_to [] 0 0 ∷ came_to [] 16 1 ∷ came_to (ascii "05000703A1\n") 0 0 ∷ came_to (ascii "05000703A1") 0 0 ∷ came_to [] 16 1
     ∷ came_to (ascii "05000703A1\n") 16 2 ∷ []
 
@@ -91,18 +91,18 @@ EdgesRow =
 abbrev pub FirstRefusedRow : Type 0
 FirstRefusedRow =
     map (conversion false 100)
-    (ascii "05000703A1\n05010003_a1\n0_g\n" ∷ ascii "05000703A1\n0_g\n05010003_a1\n" ∷ ascii "0400000000\n05000703_a1\n010703_a1\n05010003_a1" ∷ [])
-    ≡ came_to (ascii "010703A1\n") 43 2 ∷ came_to (ascii "010703A1\n") 16 2 ∷ came_to (ascii "0400000000\n010703_a1\n010703_a1\n") 43 4 ∷ []
+    (ascii "05000703A1\n05010003A1\n0G\n" ∷ ascii "05000703A1\n0G\n05010003A1\n" ∷ ascii "0400000000\n05000703A1\n010703A1\n05010003A1" ∷ [])
+    ≡ came_to (ascii "010703A1\n") 43 2 ∷ came_to (ascii "010703A1\n") 16 2 ∷ came_to (ascii "0400000000\n010703A1\n010703A1\n") 43 4 ∷ []
 
 -- two lines, the second without a line feed and with it, into room for both, for all but one byte, for the first alone and for less
 abbrev pub RoomRow : Type 0
 RoomRow =
-    (map (λ (room : ℕ). conversion true room (ascii "010703A1\n010703_a1")) (21 ∷ 20 ∷ 11 ∷ 10 ∷ 0 ∷ [])
-    ≡ came_to (ascii "05000703A1\n05000703_a1") 0 0 ∷ came_to (ascii "05000703A1\n") 46 2 ∷ came_to (ascii "05000703A1\n") 46 2
+    (map (λ (room : ℕ). conversion true room (ascii "010703A1\n010703A1")) (21 ∷ 20 ∷ 11 ∷ 10 ∷ 0 ∷ [])
+    ≡ came_to (ascii "05000703A1\n05000703A1") 0 0 ∷ came_to (ascii "05000703A1\n") 46 2 ∷ came_to (ascii "05000703A1\n") 46 2
     ∷ came_to [] 46 1 ∷ came_to [] 46 1
     ∷ [])
-    × (map (λ (room : ℕ). conversion true room (ascii "010703A1\n010703_a1\n")) (22 ∷ 21 ∷ [])
-    ≡ came_to (ascii "05000703A1\n05000703_a1\n") 0 0 ∷ came_to (ascii "05000703A1\n") 46 2 ∷ [])
+    × (map (λ (room : ℕ). conversion true room (ascii "010703A1\n010703A1\n")) (22 ∷ 21 ∷ [])
+    ≡ came_to (ascii "05000703A1\n05000703A1\n") 0 0 ∷ came_to (ascii "05000703A1\n") 46 2 ∷ [])
 
 -- in no room: 16 before 46, 43 before 46, and 46; an empty log needs none
 abbrev pub OrderRow : Type 0
@@ -121,10 +121,10 @@ EnoughRow =
 -- a refused line counts those of all pieces before it, and ends the work; each piece has the room anew; an empty one between
 abbrev pub PiecesRow : Type 0
 PiecesRow =
-    (in_pieces true 22 0 (ascii "010703A1\n010703_a1\n" ∷ ascii "010703A1\n0_g\n" ∷ ascii "010703A1\n" ∷ [])
-    ≡ came_to (ascii "05000703A1\n05000703_a1\n05000703_a1\n") 16 4)
+    (in_pieces true 22 0 (ascii "010703A1\n010703A1\n" ∷ ascii "010703A1\n0G\n" ∷ ascii "010703A1\n" ∷ [])
+    ≡ came_to (ascii "05000703A1\n05000703A1\n05000703A1\n") 16 4)
     × (in_pieces true 11 0 (ascii "010703A1\n" ∷ [] ∷ ascii "010703A1\n" ∷ ascii "010703A1" ∷ [])
-    ≡ came_to (ascii "05000703A1\n05000703_a1\n05000703_a1") 0 0)
+    ≡ came_to (ascii "05000703A1\n05000703A1\n05000703A1") 0 0)
     × (in_pieces true 0 0 [] ≡ came_to [] 0 0) × (in_pieces true 0 0 ([] ∷ []) ≡ came_to [] 0 0)
 
 -- three pieces to 01, with 43 in the last; with a byte less of room 46 in the second
@@ -133,19 +133,19 @@ ThreePiecesRow =
     map
     (λ (room : ℕ).
     in_pieces false room 0
-    (ascii "05000703A1\n" ∷ ascii "05000703A1\n010703_a1\n" ∷ ascii "010703A1\n05010003_a1\n0_g" ∷ []))
+    (ascii "05000703A1\n" ∷ ascii "05000703A1\n010703A1\n" ∷ ascii "010703A1\n05010003A1\n0G" ∷ []))
     (18 ∷ 17 ∷ [])
-    ≡ came_to (ascii "010703A1\n010703_a1\n010703_a1\n010703_a1\n") 43 5 ∷ came_to (ascii "010703A1\n010703_a1\n") 46 3 ∷ []
+    ≡ came_to (ascii "010703A1\n010703A1\n010703A1\n010703A1\n") 43 5 ∷ came_to (ascii "010703A1\n010703A1\n") 46 3 ∷ []
 
 -- room for each piece, for all but a byte of the second, for a line, for less
 abbrev pub PieceRoomRow : Type 0
 PieceRoomRow =
     map
-    (λ (room : ℕ). in_pieces true room 0 (ascii "010703A1\n" ∷ ascii "010703A1\n010703_a1" ∷ ascii "0G" ∷ []))
+    (λ (room : ℕ). in_pieces true room 0 (ascii "010703A1\n" ∷ ascii "010703A1\n010703A1" ∷ ascii "0G" ∷ []))
     (21 ∷ 20 ∷ 11 ∷ 10 ∷ [])
-    ≡ came_to (ascii "05000703A1\n05000703_a1\n05000703_a1") 16 4
-    ∷ came_to (ascii "05000703A1\n05000703_a1\n") 46 3
-    ∷ came_to (ascii "05000703A1\n05000703_a1\n") 46 3
+    ≡ came_to (ascii "05000703A1\n05000703A1\n05000703A1") 16 4
+    ∷ came_to (ascii "05000703A1\n05000703A1\n") 46 3
+    ∷ came_to (ascii "05000703A1\n05000703A1\n") 46 3
     ∷ came_to [] 46 1
     ∷ []
 

@@ -14,3 +14,6 @@ overflow_add-next c = omega (arith, size_room _ _ _ c.size_at-size.ensures c.if-
 
 pub returns : goal.returns
 returns c = data-found _ _ _ c.size_at-size.ensures
+
+pub slice_bounds-result-end-2 : goal.slice_bounds-result-end-2
+slice_bounds-result-end-2 c = omega (arith, size_room _ _ _ c.size_at-size.ensures c.if-size-eq0.false)
