@@ -20,14 +20,14 @@ slice_bounds-bytes-end-2 c =
     let fits : c.args.count ≤ 65535 = search rules in
     let blank = c.zero_buffer-bytes in
     let call = c.random_data-outcome in
-    simp length-append (omega (arith, length_back c.args.count 65535 blank.result fits blank.ensures call.new.1.1.0 call.auto.1.1.0))
+    simp length-append (omega (arith, length_back c.args.count 65535 blank.result fits blank.ensures call.new.out call.auto.out))
 
 pub slice_bounds-output_line-end : goal.slice_bounds-output_line-end
 slice_bounds-output_line-end c =
     let fits : c.args.count ≤ 65535 = search rules in
     let blank = c.zero_buffer-bytes in
     let call = c.random_data-outcome in
-    sym (length-front-back c.args.count 65535 blank.result fits blank.ensures call.new.1.1.0 call.auto.1.1.0)
+    sym (length-front-back c.args.count 65535 blank.result fits blank.ensures call.new.out call.auto.out)
 
 pub output_line-written-requires : goal.output_line-written-requires
 output_line-written-requires c =
@@ -38,7 +38,7 @@ output_line-written-requires c =
     let e = front-zeros a.count 65535 blank.result fits blank.ensures in (
       rw c.number.ensures (answer-small call.result.answer),
       emptied-small a.state (request a.clock (zeros a.count)) call.result (rw e at call.ensures.0),
-      omega (arith, c.requires, fits, length-front-back a.count 65535 blank.result fits blank.ensures call.new.1.1.0 call.auto.1.1.0),
+      omega (arith, c.requires, fits, length-front-back a.count 65535 blank.result fits blank.ensures call.new.out call.auto.out),
     )
 
 pub returns : goal.returns
@@ -47,10 +47,10 @@ returns c =
     let a = c.args in
     let blank = c.zero_buffer-bytes in
     let call = c.random_data-outcome in
-    let back = call.new.1.1.0 in
+    let back = call.new.out in
     let e = front-zeros a.count 65535 blank.result fits blank.ensures in
-    let f = front-back a.count 65535 blank.result fits blank.ensures back call.auto.1.1.0 in
-    let l = length_back a.count 65535 blank.result fits blank.ensures back call.auto.1.1.0 in
+    let f = front-back a.count 65535 blank.result fits blank.ensures back call.auto.out in
+    let l = length_back a.count 65535 blank.result fits blank.ensures back call.auto.out in
     output-prints a.state (request a.clock (zeros a.count)) call.result back _ _ a.out.now _
     (request-lends a.clock (zeros a.count))
     (rw e at call.ensures)

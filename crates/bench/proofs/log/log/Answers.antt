@@ -49,7 +49,7 @@ slice_bounds-append-end-2 c =
     sym (length-take-le o.result o.new.out (finishes-fit o.ensures))
 
 pub shape_of-out : goal.shape_of-out
-shape_of-out c = c.append.auto.0 ∙ c.loop-at.invariant.kept
+shape_of-out c = c.append.auto.buffer ∙ c.loop-at.invariant.kept
 
 pub returns : goal.returns
 returns c =

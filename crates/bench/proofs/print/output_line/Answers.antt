@@ -46,13 +46,13 @@ encode-requires c = simp length-set (omega arith)
 pub bounds-out-n : goal.bounds-out-n
 bounds-out-n c =
     let k : length c.encode.new.out ≡ length c.args.out.now =
-    c.encode.auto.1.0 ∙ simp length-set in
+    c.encode.auto.out ∙ simp length-set in
     omega arith
 
 pub shape_of-out : goal.shape_of-out
 shape_of-out c =
     let k : length c.encode.new.out ≡ length c.args.out.now =
-    c.encode.auto.1.0 ∙ simp length-set in
+    c.encode.auto.out ∙ simp length-set in
     simp length-set k
 
 pub returns : goal.returns
