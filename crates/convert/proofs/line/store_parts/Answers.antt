@@ -1,0 +1,8 @@
+use Rattle.convert.proofs.Stores.{parts-stored}
+use borrow.Author.Rules.{rules}
+use Rattle.convert.proofs.line.store_parts.Goals as goal
+
+pub returns : goal.returns
+returns c =
+    let a = c.args in
+    parts-stored a.out.now a.front.now a.rest.now _ _ c.requires c.overwrite.ensures c.overwrite-2.ensures
