@@ -1,6 +1,7 @@
 // The events behind a pool's byte string (02 (xiii)): a reader from a place in a string, counted from 0, to the event there and the next
 // place.
 #![tactic(auto)]
+
 mod answer;
 
 ghost use Rattle.std.specs.Prelude.{◌≡◌, ◌+◌, ◌≤◌, length};

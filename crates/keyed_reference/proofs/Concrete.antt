@@ -9,7 +9,6 @@ use Rattle.laws.proofs.Tabulate.{get_d_tabulate}
 use Rattle.hash.specs.ShaD.{pool_of}
 use Rattle.hash.proofs.Laws.{pool-length}
 use Rattle.generator.specs.Steps.{GeneratorState, decode}
-use Rattle.generator.specs.Refusals as Generator
 use Rattle.generator.proofs.Laws.{decode-encode}
 use Rattle.pools.specs.Events.{pool_count}
 use Rattle.pools.specs.Pool.{malformed_pool}

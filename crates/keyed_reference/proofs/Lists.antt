@@ -8,7 +8,6 @@ use native.Mathlib.Omega.{arith}
 use lib.Dec.{eqb, ltb}
 use lib.ListN.{length}
 use borrow.Author.Tests.{eqb-true}
-use Rattle.laws.specs.Refusals.{refuse}
 use Rattle.laws.proofs.Refusals.{passed}
 use Rattle.pools.specs.Calls.{run_from, outcome}
 use Rattle.pools.proofs.Chains.{then-nothing, both-passed}

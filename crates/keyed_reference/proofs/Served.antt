@@ -19,7 +19,7 @@ use Rattle.pools.specs.Calls.{Outcome, outcome, effect_of}
 use Rattle.pools.proofs.Chains.{both-passed, then-second}
 use Rattle.pools.proofs.Acceptance.{update-room}
 use Rattle.pools.proofs.Outcomes.{outcome-refused}
-use Rattle.quotas.specs.Entries.{Quotas, within, left_with}
+use Rattle.quotas.specs.Entries.{Quotas, left_with}
 use Rattle.keyed.specs.declared.Keyed.{Keyed}
 use Rattle.keyed.specs.State.{counter_of, timer_moved, malformed_fields, malformed}
 use Rattle.keyed.specs.Refusals.{event_state}

@@ -1,6 +1,7 @@
 // Calls that take a list of quotas (02 (x)), of the present scheduler and of the keyed one, on a state by value. The list is looked at
 // first, and settled afterwards.
 #![tactic(auto)]
+
 mod calls;
 mod events;
 mod gates;

@@ -1,6 +1,5 @@
 use native.Mathlib.Omega.{arith}
 use Rattle.history.proofs.Sizes.{data-nothing, size_room, data-found}
-use borrow.Author.Rules.{rules}
 use Rattle.history.proofs.data_at.Goals as goal
 
 pub returns-then-size-eq0 : goal.returns-then-size-eq0

@@ -2,7 +2,6 @@ use mathlib.Core.Path.{sym}
 use native.Mathlib.Omega.{arith}
 use Rattle.history.proofs.Entries.{entry-end}
 use Rattle.history.proofs.Sizes.{entry-nothing, size_room, entry_found}
-use borrow.Author.Rules.{rules}
 use Rattle.history.proofs.entry_at.Goals as goal
 
 pub returns-then-place-string : goal.returns-then-place-string

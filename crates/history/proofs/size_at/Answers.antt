@@ -1,7 +1,6 @@
 use native.Mathlib.Omega.{arith}
 use Rattle.history.specs.Reader.{length_at}
 use Rattle.history.proofs.Sizes.{size-short, size-late, size-large, size-cut, size-whole}
-use borrow.Author.Rules.{rules}
 use Rattle.history.proofs.size_at.Goals as goal
 
 pub returns-then-total-lt4 : goal.returns-then-total-lt4

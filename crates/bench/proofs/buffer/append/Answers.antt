@@ -1,5 +1,4 @@
 use mathlib.Core.Path.{sym}
-use borrow.Author.Rules.{rules}
 use Rattle.bench.proofs.Buffers.{appended-full, held-full, held_fits, held_cut, appended-part}
 use Rattle.bench.proofs.buffer.append.Goals as goal
 

@@ -1,7 +1,6 @@
 use mathlib.Core.Path.{◌∙◌, sym}
 use borrow.Author.Tests.{ne_eqb}
 use Rattle.bench.proofs.Frames.{frame-none, frame-some}
-use borrow.Author.Rules.{rules}
 use Rattle.bench.proofs.frame.parse.Goals as goal
 
 pub returns-then-bytes-eq0 : goal.returns-then-bytes-eq0

@@ -1,6 +1,5 @@
 use borrow.Author.Tests.{eq-eqb, ne_eqb}
 use Rattle.bench.specs.Frames.{request_frame}
-use borrow.Author.Rules.{rules}
 use Rattle.bench.proofs.frame.request_frame.Goals as goal
 
 pub returns-then-bytes-eq7 : goal.returns-then-bytes-eq7

@@ -1,6 +1,5 @@
 use borrow.Author.Tests.{le-leb, lt-leb}
 use Rattle.bench.specs.Frames.{update_frame}
-use borrow.Author.Rules.{rules}
 use Rattle.bench.proofs.frame.update_frame.Goals as goal
 
 pub returns-then-bytes-ge5 : goal.returns-then-bytes-ge5

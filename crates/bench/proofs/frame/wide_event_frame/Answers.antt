@@ -1,6 +1,5 @@
 use borrow.Author.Tests.{le-leb, lt-leb}
 use Rattle.bench.specs.Frames.{wide_event_frame}
-use borrow.Author.Rules.{rules}
 use Rattle.bench.proofs.frame.wide_event_frame.Goals as goal
 
 pub returns-then-bytes-ge4 : goal.returns-then-bytes-ge4

@@ -1,6 +1,5 @@
 use borrow.Author.Tests.{eq-eqb, ne_eqb}
 use Rattle.bench.specs.Frames.{write_frame}
-use borrow.Author.Rules.{rules}
 use Rattle.bench.proofs.frame.write_frame.Goals as goal
 
 pub returns-then-bytes-eq5 : goal.returns-then-bytes-eq5

@@ -1,11 +1,8 @@
-use mathlib.Core.Path.{◌≡◌, refl, sym, ap, ◌∙◌}
-use mathlib.Core.Bool.{Bool, ◌&&◌}
-use Prim.Native.Nat.{◌+◌, ◌-◌, ◌≤◌}
-use native.Mathlib.Omega.{arith}
+use mathlib.Core.Path.{◌≡◌}
+use mathlib.Core.Bool.{◌&&◌}
+use Prim.Native.Nat.{◌-◌, ◌≤◌}
 use lib.ListN.{length, drop}
-use borrow.Author.Rules.{rules}
 use Rattle.bench.specs.Hexadecimal.{all_digits}
-use Rattle.bench.proofs.Hexadecimal.{digits_more, digits-all}
 use Rattle.bench.proofs.hex.all_digits.Given as goal
 
 abbrev pub invariant-loop-i : goal.invariant-loop-i

@@ -1,5 +1,4 @@
 use native.Mathlib.Omega.{arith}
-use borrow.Author.Rules.{rules}
 use Rattle.bench.proofs.Hexadecimal.{digit-small}
 use Rattle.bench.proofs.hex.byte.Goals as goal
 

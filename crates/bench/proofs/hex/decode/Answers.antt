@@ -1,9 +1,8 @@
 use mathlib.Core.Path.{◌≡◌}
-use Prim.Native.Nat.{◌/◌, ◌≤◌, ◌-◌}
+use Prim.Native.Nat.{◌/◌}
 use native.Mathlib.Omega.{arith}
 use lib.ListN.{length}
-use borrow.Author.Rules.{rules}
-use Rattle.bench.proofs.Hexadecimal.{Decoded, decoded-none, decoded-more, decoded-all}
+use Rattle.bench.proofs.Hexadecimal.{decoded-none, decoded-more, decoded-all}
 use Rattle.bench.proofs.hex.decode.Goals as goal
 
 pub loop-i-init : goal.loop-i-init

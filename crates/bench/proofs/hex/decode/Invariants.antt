@@ -1,9 +1,5 @@
-use mathlib.Core.Path.{◌≡◌}
-use Prim.Native.Nat.{◌/◌, ◌≤◌, ◌-◌}
-use native.Mathlib.Omega.{arith}
-use lib.ListN.{length}
-use borrow.Author.Rules.{rules}
-use Rattle.bench.proofs.Hexadecimal.{Decoded, decoded-none, decoded-more, decoded-all}
+use Prim.Native.Nat.{◌≤◌, ◌-◌}
+use Rattle.bench.proofs.Hexadecimal.{Decoded}
 use Rattle.bench.proofs.hex.decode.Given as goal
 
 abbrev pub invariant-loop-i : goal.invariant-loop-i

@@ -1,4 +1,3 @@
-use borrow.Author.Rules.{rules}
 use borrow.Author.Tests.{lt-ltb, le-ltb}
 use Rattle.bench.specs.Hexadecimal.{digit_character}
 use Rattle.bench.proofs.hex.digit_character.Goals as goal

@@ -1,5 +1,4 @@
 use native.Mathlib.Omega.{arith}
-use borrow.Author.Rules.{rules}
 use borrow.Author.Tests.{le-leb, lt-leb}
 use Rattle.bench.specs.Hexadecimal.{is_decimal, is_capital, digit_value}
 use Rattle.bench.proofs.hex.digit_value.Goals as goal

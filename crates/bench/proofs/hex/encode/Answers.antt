@@ -1,9 +1,7 @@
 use mathlib.Core.Path.{◌≡◌}
-use Prim.Native.Nat.{◌≤◌, ◌-◌}
 use native.Mathlib.Omega.{arith}
 use lib.ListN.{length, length-set}
-use borrow.Author.Rules.{rules}
-use Rattle.bench.proofs.Hexadecimal.{Encoded, encoded-none, encoded-more, encoded-all}
+use Rattle.bench.proofs.Hexadecimal.{encoded-none, encoded-more, encoded-all}
 use Rattle.bench.proofs.hex.encode.Goals as goal
 
 pub loop-i-init : goal.loop-i-init

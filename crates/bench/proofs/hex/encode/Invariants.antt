@@ -1,9 +1,6 @@
-use mathlib.Core.Path.{◌≡◌}
 use Prim.Native.Nat.{◌≤◌, ◌-◌}
-use native.Mathlib.Omega.{arith}
-use lib.ListN.{length, length-set}
-use borrow.Author.Rules.{rules}
-use Rattle.bench.proofs.Hexadecimal.{Encoded, encoded-none, encoded-more, encoded-all}
+use lib.ListN.{length}
+use Rattle.bench.proofs.Hexadecimal.{Encoded}
 use Rattle.bench.proofs.hex.encode.Given as goal
 
 abbrev pub invariant-loop-i : goal.invariant-loop-i

@@ -1,5 +1,4 @@
 use mathlib.Core.Path.{◌∙◌}
-use borrow.Author.Rules.{rules}
 use borrow.Author.Tests.{eq-eqb, ne_eqb}
 use Rattle.bench.specs.Hexadecimal.{is_hex}
 use Rattle.bench.proofs.hex.is_hex.Goals as goal

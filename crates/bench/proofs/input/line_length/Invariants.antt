@@ -1,11 +1,7 @@
-use mathlib.Core.Path.{◌≡◌, sym, ◌∙◌}
+use mathlib.Core.Path.{◌≡◌}
 use Prim.Native.Nat.{◌+◌, ◌≤◌, ◌-◌}
-use native.Mathlib.Nat.{add-zero}
-use native.Mathlib.Omega.{arith}
 use lib.ListN.{length, drop}
-use borrow.Author.Rules.{rules}
 use Rattle.bench.specs.Input.{first_line}
-use Rattle.bench.proofs.Lines.{first-at, first_past, first-end}
 use Rattle.bench.proofs.input.line_length.Given as goal
 
 abbrev pub invariant-loop-i : goal.invariant-loop-i

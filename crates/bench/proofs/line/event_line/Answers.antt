@@ -1,4 +1,3 @@
-use borrow.Author.Rules.{rules}
 use Rattle.bench.proofs.Executed.{event-prints}
 use Rattle.pools.proofs.Bounds.{answer-small}
 use Rattle.bench.proofs.line.event_line.Goals as goal

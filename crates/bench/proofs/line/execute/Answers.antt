@@ -1,6 +1,5 @@
 use mathlib.Core.Path.{sym, ◌∙◌}
 use native.Mathlib.Omega.{arith}
-use borrow.Author.Rules.{rules}
 use Rattle.bench.proofs.Frames.{event-call, request-call, update-call, write-call, wide-event-call, invalid-call}
 use Rattle.bench.proofs.line.execute.Goals as goal
 

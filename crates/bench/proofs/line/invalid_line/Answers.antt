@@ -1,4 +1,3 @@
-use borrow.Author.Rules.{rules}
 use Rattle.bench.proofs.Executed.{invalid-prints}
 use Rattle.bench.proofs.line.invalid_line.Goals as goal
 

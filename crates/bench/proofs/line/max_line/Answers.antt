@@ -1,5 +1,4 @@
 use mathlib.Core.Path.{sym}
-use borrow.Author.Rules.{rules}
 use Rattle.bench.proofs.Texts.{other-first, other-second, wide-line, no_second}
 use Rattle.bench.proofs.line.max_line.Goals as goal
 

@@ -1,12 +1,7 @@
-use mathlib.Core.Path.{◌≡◌, sym, ◌∙◌}
-use Prim.Native.Nat.{◌-◌, ◌^◌, ◌<◌}
-use native.Mathlib.Omega.{arith}
+use Prim.Native.Nat.{◌-◌}
 use lib.ListN.{length}
-use lib.Seq.{length-take-le}
-use borrow.Author.Rules.{rules}
 use Rattle.bench.specs.Input.{session}
-use Rattle.bench.proofs.Logs.{Logged, logged_none, logged-more, logged-all, steps-fit, finishes-fit}
-use Rattle.bench.proofs.Steps.{steps-used}
+use Rattle.bench.proofs.Logs.{Logged}
 use Rattle.bench.proofs.log.log.Given as goal
 
 abbrev pub invariant-loop-at : goal.invariant-loop-at

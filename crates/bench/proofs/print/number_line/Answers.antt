@@ -1,6 +1,5 @@
 use native.Mathlib.Omega.{arith}
 use lib.ListN.{length-set}
-use borrow.Author.Rules.{rules}
 use Rattle.bench.proofs.Printing.{number-shown}
 use Rattle.bench.proofs.print.number_line.Goals as goal
 

@@ -1,7 +1,6 @@
 use mathlib.Core.Path.{◌≡◌, ◌∙◌, ap}
 use native.Mathlib.Omega.{arith}
 use lib.ListN.{length, length-set}
-use borrow.Author.Rules.{rules}
 use Rattle.laws.specs.Lists.{overwrite}
 use Rattle.bench.proofs.Printing.{output-refused, output-none, output-some}
 use Rattle.bench.proofs.print.output_line.Goals as goal

@@ -1,4 +1,3 @@
-use borrow.Author.Rules.{rules}
 use borrow.Author.Tests.{lt-ltb, le-ltb}
 use Rattle.pools.specs.Events.{max_data, header_length, gain}
 use Rattle.metered.specs.Metering.{cost_of}

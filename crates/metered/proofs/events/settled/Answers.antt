@@ -1,4 +1,3 @@
-use borrow.Author.Rules.{rules}
 use borrow.Author.Tests.{eq-eqb, ne_eqb}
 use Rattle.metered.specs.Metering.{settled_by}
 use Rattle.metered.proofs.events.settled.Goals as goal

@@ -1,5 +1,4 @@
 use mathlib.Core.Path.{refl}
-use borrow.Author.Rules.{rules}
 use Rattle.pools.specs.Effects.{with_pool}
 use Rattle.metered.proofs.events.stored.Goals as goal
 

@@ -1,4 +1,3 @@
-use borrow.Author.Rules.{rules}
 use Rattle.pools.specs.Calls.{draw, input_number}
 use Rattle.metered.proofs.Gating.{draw-shut, gate-open}
 use Rattle.metered.proofs.gates.gated_draw.Goals as goal

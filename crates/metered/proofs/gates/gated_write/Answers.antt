@@ -1,4 +1,3 @@
-use borrow.Author.Rules.{rules}
 use Rattle.pools.specs.Calls.{write, input_buffer, input_number}
 use Rattle.metered.proofs.Gating.{gate-shut, gate-open}
 use Rattle.metered.proofs.gates.gated_write.Goals as goal

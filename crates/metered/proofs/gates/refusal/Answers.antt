@@ -1,5 +1,4 @@
 use mathlib.Core.Path.{sym, ◌∙◌}
-use borrow.Author.Rules.{rules}
 use borrow.Author.Tests.{eqb-true, eqb-false}
 use Rattle.pools.specs.Promises.{number}
 use Rattle.pools.proofs.Chains.{then-first, then-second}

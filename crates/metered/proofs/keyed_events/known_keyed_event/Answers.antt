@@ -1,6 +1,5 @@
 use mathlib.Core.Path.{ap, ◌∙◌}
 use Prim.Native.Nat.{ℕ}
-use borrow.Author.Rules.{rules}
 use Rattle.metered.specs.Metering.{known_of}
 use Rattle.metered.proofs.keyed_events.known_keyed_event.Goals as goal
 

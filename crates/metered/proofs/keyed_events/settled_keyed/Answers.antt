@@ -1,4 +1,3 @@
-use borrow.Author.Rules.{rules}
 use borrow.Author.Tests.{eq-eqb, ne_eqb}
 use Rattle.metered.specs.KeyedMetering.{settled_keyed}
 use Rattle.metered.proofs.keyed_events.settled_keyed.Goals as goal

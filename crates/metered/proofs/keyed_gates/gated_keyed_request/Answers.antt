@@ -1,4 +1,3 @@
-use borrow.Author.Rules.{rules}
 use Rattle.keyed.specs.Calls.{request, input_buffer, input_number}
 use Rattle.metered.proofs.KeyedGating.{gate-shut, gate-open}
 use Rattle.metered.proofs.keyed_gates.gated_keyed_request.Goals as goal
