@@ -1,14 +1,14 @@
-//! Links the archive that `rt staticlib fortuna_c` writes.
+//! Links the archive that tests/gate/library makes.
 use std::env;
 use std::path::Path;
 
 fn main() {
     let here = env::var("CARGO_MANIFEST_DIR").expect("cargo sets it");
-    let archives = Path::new(&here).join("../../target/staticlib");
+    let archives = Path::new(&here).join("../../crates/fortuna_c/out");
     let archive = archives.join("libfortuna_c.a");
     assert!(
         archive.exists(),
-        "{} is missing: rt staticlib fortuna_c makes it",
+        "{} is missing: tests/gate/library makes it",
         archive.display()
     );
     println!("cargo:rustc-link-search=native={}", archives.display());

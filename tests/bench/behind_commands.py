@@ -431,10 +431,10 @@ def builds(folder):
     words = [str(copy / "bin" / "events"), "strings"]
     for _ in range(2):
         same(words, tell(words, folder, 0, None, env=given), "reseed 1, pool 0, order 1, source 7, data 05\n")
-        same("rt was asked", (played / "asked").read_text(), "staticlib fortuna_c\n")
-    (copy / "target" / "staticlib" / "libfortuna_c.a").unlink()
+        same("rt was asked", (played / "asked").read_text(), "fortuna_c: lib\n")
+    (copy / "crates" / "fortuna_c" / "out" / "libfortuna_c.a").unlink()
     taken = {**given, "LIBRARY_BUILT": "1"}
-    tell(words, folder, 2, "events: LIBRARY_BUILT is set, and there is no target/staticlib/libfortuna_c.a", env=taken)
+    tell(words, folder, 2, "events: LIBRARY_BUILT is set, and there is no crates/fortuna_c/out/libfortuna_c.a", env=taken)
     (played / "failing").touch()
     status, printed, said = run(words, folder, env=given)
     if status != 2 or printed or "rt: it fails\nevents: fortuna_c could not be proved and built" not in said:

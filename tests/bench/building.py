@@ -18,7 +18,7 @@ ROOT = Path(__file__).resolve().parents[2]
 TARGET = ROOT / "target"
 BENCH = "bench_main"
 LIBRARY = "fortuna_c"
-ARCHIVE = TARGET / "staticlib" / f"lib{LIBRARY}.a"
+ARCHIVE = ROOT / "crates" / LIBRARY / "out" / f"lib{LIBRARY}.a"
 HEALTH = ROOT / "tests" / "c_interface" / "health.c"
 METERED = ROOT / "tests" / "bench" / "metered.c"
 CONVERT = ROOT / "examples" / "c" / "convert.c"
@@ -60,7 +60,7 @@ def built_on(crate):
     for line in (ROOT / "crates.txt").read_text().splitlines():
         name, colon, rest = line.partition("#")[0].partition(":")
         if colon:
-            below[name.strip()] = rest.split()
+            below[name.split()[0]] = rest.split()  # a static library has a word more before the colon
     needed, waiting = set(), [crate]
     while waiting:
         name = waiting.pop()
@@ -70,29 +70,33 @@ def built_on(crate):
     return {name: [other for other in below[name] if other in needed] for name in below if name in needed}
 
 
-def progress(crates, at_once, said):
-    """What rt is proving. It tells the verdicts of crates that it proves together at one time."""
-    done = set(re.findall(r"^rt: (\w+) proved", said, re.MULTILINE))
-    now = [name for name, below in crates.items() if name not in done and done.issuperset(below)][:at_once]
+def progress(crates, said):
+    """What rt is proving. It goes from the lowest crate up, names each function that it proves, and each crate at its end;
+    of a crate that has not changed it says nothing."""
+    done = set()
+    for ended, begun in re.findall(r"^(?:crate (\w+): modules|fn (\w+)::)", said, re.MULTILINE):
+        done |= {ended} & crates.keys()
+        done.update(*(built_on(name).keys() - {name} for name in {ended, begun} & crates.keys()))
+    now = [name for name, below in crates.items() if name not in done and done.issuperset(below)][:1]
     return f"proving {', '.join(now) or 'no more'}; {len(crates.keys() - done)} of {len(crates)} crates left"
 
 
-def ask_rt(name, verbose, verb, crate, at_once=None):
-    """rt proves and builds what has changed since it last did. It proves so many crates at once, or a whole level."""
+def ask_rt(name, verbose, verb, crate):
+    """rt proves and builds what has changed since it last did, in the crate's folder."""
     if shutil.which("rt") is None:
         raise NotBuilt("the Rattle toolchain (rt) is not on the path")
     log = TARGET / f"{name}.out"
     crates, start, told = built_on(crate), time.monotonic(), 0
     with open(log, "wb") as out:
         # a group of its own, so that what rt started can be ended with it
-        words = ["rt", verb, crate]
-        rt = subprocess.Popen(words, cwd=ROOT, stdin=subprocess.DEVNULL, stdout=out, stderr=out, start_new_session=True)
+        where = {"cwd": ROOT / "crates" / crate, "stdin": subprocess.DEVNULL}
+        rt = subprocess.Popen(["rt", verb], **where, stdout=out, stderr=out, start_new_session=True)
     try:
         while rt.poll() is None:
             spent = time.monotonic() - start
             if spent >= told + (EVERY if told else QUIET):
                 told = spent
-                say(name, f"{spent:.0f} s, {progress(crates, at_once, log.read_text(errors='replace'))}")
+                say(name, f"{spent:.0f} s, {progress(crates, log.read_text(errors='replace'))}")
             time.sleep(0.02 if spent < QUIET else 0.5)
     except BaseException:
         os.killpg(rt.pid, signal.SIGTERM)
@@ -105,8 +109,8 @@ def ask_rt(name, verbose, verb, crate, at_once=None):
 
 @contextlib.contextmanager
 def alone(name):
-    """One command at a time builds. Of six that asked rt at once, with nothing changed, two were told that all had
-    failed: each rt writes its verdicts to the same files."""
+    """One command at a time builds: rt has a second one wait too, but the user would not be told, and what is compiled
+    over the library has the same files."""
     TARGET.mkdir(exist_ok=True)
     with open(TARGET / "building.lock", "w") as lock:
         start, told = time.monotonic(), False
@@ -126,9 +130,10 @@ def alone(name):
 
 
 def bench_program(name, verbose=False):
+    """rt runs what it has built, here on a log with no line, to which there is no answer."""
     with alone(name):
-        ask_rt(name, verbose, "check", BENCH)
-    return TARGET / "bin" / BENCH
+        ask_rt(name, verbose, "run", BENCH)
+    return ROOT / "crates" / BENCH / "out" / BENCH
 
 
 # ---- the programs over the static library
@@ -153,7 +158,9 @@ def make(made, sources, maker):
 
 
 def sources_of_library():
-    return [ROOT / "crates.txt", *sorted(path for path in (ROOT / "crates").rglob("*") if path.is_file())]
+    folders = [path for path in (ROOT / "crates").glob("*/*") if path.name != "out"]  # out/ has what rt makes
+    files = {file for path in folders for file in [path, *path.rglob("*")] if file.is_file()}
+    return [ROOT / "crates.txt", *sorted(files)]
 
 
 def compile_driver(driver, program):
@@ -176,7 +183,7 @@ def library_program(driver, name, verbose):
     with alone(name):
         program.parent.mkdir(exist_ok=True)
         if not os.environ.get("LIBRARY_BUILT"):
-            make(ARCHIVE, sources_of_library(), lambda: ask_rt(name, verbose, "staticlib", LIBRARY, at_once=1))
+            make(ARCHIVE, sources_of_library(), lambda: ask_rt(name, verbose, "lib", LIBRARY))
         elif not ARCHIVE.is_file():
             raise NotBuilt(f"LIBRARY_BUILT is set, and there is no {ARCHIVE.relative_to(ROOT)}")
         make(program, [ARCHIVE, driver, *HEADERS], lambda: compile_driver(driver, program))

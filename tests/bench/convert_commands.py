@@ -207,10 +207,10 @@ def builds(folder):
     words = [str(copy / "bin" / "convert"), "--to", "05", "some.log"]
     for _ in range(2):
         same(words, tell(words, folder, 0, None, env=given), told(LINE + b"\n", "05")[0].decode())
-        same("rt was asked", (played / "asked").read_text(), "staticlib fortuna_c\n")
-    (copy / "target" / "staticlib" / "libfortuna_c.a").unlink()
+        same("rt was asked", (played / "asked").read_text(), "fortuna_c: lib\n")
+    (copy / "crates" / "fortuna_c" / "out" / "libfortuna_c.a").unlink()
     taken = {**given, "LIBRARY_BUILT": "1"}
-    tell(words, folder, 2, "convert: LIBRARY_BUILT is set, and there is no target/staticlib/libfortuna_c.a", env=taken)
+    tell(words, folder, 2, "convert: LIBRARY_BUILT is set, and there is no crates/fortuna_c/out/libfortuna_c.a", env=taken)
     (played / "failing").touch()
     status, printed, said = run(words, folder, env=given)
     if status != 2 or printed or "rt: it fails\nconvert: fortuna_c could not be proved and built" not in said:

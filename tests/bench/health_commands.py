@@ -20,14 +20,14 @@ from program import Failure
 
 HEALTH = str(ROOT / "bin" / "health")
 PAGE = ROOT / "docs" / "HEALTH.md"
-ARCHIVE = ROOT / "target" / "staticlib" / "libfortuna_c.a"
+ARCHIVE = ROOT / "crates" / "fortuna_c" / "out" / "libfortuna_c.a"
 TAKEN = {**os.environ, "LIBRARY_BUILT": "1"}
 FRESH_AGAIN = "The test state is fresh again. Nothing after this reading was looked at.\n"
 PLAYED_RT = """#!/bin/sh
-echo "$@" >>"{0}/asked"
+echo "${PWD##*/}: $*" >>"{0}/asked"
 [ ! -e "{0}/failing" ] || { echo 'rt: it fails'; exit 1; }
-mkdir -p target/staticlib
-cp "{1}" target/staticlib/libfortuna_c.a
+mkdir -p out
+cp "{1}" out/libfortuna_c.a
 """
 
 
@@ -185,12 +185,13 @@ def tests(folder):
 
 
 def copied(folder):
-    """A copy of what the commands need, with one crate that has nothing in it."""
+    """A copy of what the commands need, with two crates that have nothing in them."""
     copy = folder / "copy"
     for name in ("bin", "include", "examples/c", "tests/independent", "tests/bench", "tests/c_interface"):
         shutil.copytree(ROOT / name, copy / name, ignore=shutil.ignore_patterns("__pycache__"))
-    (copy / "crates" / "fortuna_c").mkdir(parents=True)
-    (copy / "crates.txt").write_text("fortuna_c:\n")
+    for name in ("bench_main", "fortuna_c"):
+        (copy / "crates" / name).mkdir(parents=True)
+    (copy / "crates.txt").write_text("fortuna_c staticlib:\n")
     return copy
 
 
@@ -234,12 +235,12 @@ def builds(folder):
     """The library is built once, and again where a file under crates/ or the library itself has changed."""
     copy = copied(folder)
     played, given = with_rt(folder, PLAYED_RT)
-    archive = copy / "target" / "staticlib" / ARCHIVE.name
+    archive = copy / "crates" / "fortuna_c" / "out" / ARCHIVE.name
     words = one_reading(copy, folder)
 
     def asked(times, env=given):
         tell(words, folder, 0, None, env=env)
-        same("rt was asked", (played / "asked").read_text(), "staticlib fortuna_c\n" * times)
+        same("rt was asked", (played / "asked").read_text(), "fortuna_c: lib\n" * times)
 
     asked(1)
     asked(1)

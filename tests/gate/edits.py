@@ -1,49 +1,61 @@
 #!/usr/bin/env python3
-"""Wrong programs and wrong definitions that the prover must refuse, tried over what rt has just proved.
+"""Wrong programs and wrong definitions that the prover must refuse.
 
-    tests/gate/edits.py [CRATE...]      the edits crates/NAME/must-fail/quick/*.edit, of all crates or of those named
-    tests/gate/edits.py CRATE/LABEL     an edit of either kind
-    tests/gate/edits.py --all ..        also crates/NAME/must-fail/*.edit, which rt ci tries from nothing
-    tests/gate/edits.py --beside-rt ..  beside a run of rt that starts now: each crate as soon as rt has proved it
+    tests/gate/edits.py [CRATE...]      the edits crates/NAME/must-fail/*.edit, of all crates or of those named
+    tests/gate/edits.py CRATE/LABEL     an edit
+    tests/gate/edits.py --said-by LOG   the edits of all crates, by what a run of rt ci wrote of them
     tests/gate/edits.py --self-test     whether edits that show nothing are told from those that do
 
-For each edit rt proves the whole crate again. Here a check takes the modules that the edit does not reach from
-target/rlib/NAME.rlib, and proves the others: seconds in place of a minute. docs/PROOFS.md says why a refusal is one.
+rt ci tries each edit over what it proved of the crate, and so does rt must-fail, which takes what has not changed since from
+earlier runs on this machine. rt counts an edit as refused where anything is not proved, and so also one that only renames a
+goal: Rattle names goals by the code's words, a proof file answers them by their names, and the goal with the new name then
+has no answer. Where what rt says may be no more than that, a second look here checks the edited crate with the new names put
+into its proof files, and goes by what the prover says then. docs/PROOFS.md says why a refusal is one.
 
 An edit has the form of rt's: lines 'file:', 'old:' and 'new:'. Its first line says what is wrong with the crate that it
 makes. An edit is bad where that line is missing, where it does not fit the files, where it is one of a proof, where it does
 not reach the prover, and where the first error is that a proof file does not fit the code, which shows nothing. The exit
-status is 1 where an edit was bad or was not refused, and 2 where nothing could be tried. target/edits has what the prover said."""
+status is 1 where an edit was bad or was not refused, and 2 where nothing could be tried. target/edits has what the prover said
+at a second look."""
 import argparse
+import difflib
+import fcntl
+import hashlib
 import os
 import re
 import shutil
 import signal
+import subprocess
 import sys
 import tempfile
-import time
+import threading
 from concurrent.futures import ThreadPoolExecutor, as_completed
 from pathlib import Path
 
-from prover import LIMIT, TARGET, Failure, Prover, copy_of, crates, folder_of
+from crates import ROOT, Failure, crates, folder_of, with_below
 
-BEGAN = time.time()
-
+PARTS = ("src", "specs", "proofs")
+LIMIT = 7200  # seconds after which a run of rt counts as hung
 MARKS = ("file:", "old:", "new:")
-FAULT = re.compile(r"(?P<place>\S+): error: (?P<text>.*)|note: (?P<place2>\S+): it is not proved that (?P<text2>.*)")
+
+# What rt says of an edit; more lines may follow.
+SAID = re.compile(r"rt: must-fail (\w+)/(\S+)\.edit: (.*)")
+REFUSED = "refused, as it must be"
+# An error, or a fact that no proof was found of.
+FAULT = re.compile(r"(?:\./)?(?P<place>[\w./+-]+:\d+:\d+): error: (?P<text>.*)|note: (?P<place2>\S+): it is not proved that (?P<text2>.*)")
 # An error that says no more than that another declaration was refused.
-FOLLOWS = "was not admitted"
-# What an error says where a proof file was written for other code: it names a need that the code has not, answers the needs in
-# another order, goes to a fact by a stage that is not there, or gives an invariant over other locals.
-# So does every error in a walk by hand, which says the code again step by step.
-MISFIT = re.compile(
-    r"has no `Need-|has no field `|expected type `tie\.\S+.*`, but this has type `tie\."
-    r"|^`(Inv|μ)-\S+`:|^`walks?`:|is not in scope"
-)
+FOLLOWS = "was not admitted|was rejected"
+# What an error of a proof file says where the file was written for other code: it names a goal, a value or a place in the code
+# that is not there.
+MISFIT = re.compile(r"has no field|is not in scope|has no `|has no .* that can be named")
+NO_GOAL = re.compile(r"^(?:\./)?proofs/(\S+)/\w+\.antt:\S+ error: .*module `\S+` has no `([^`]+)`", re.M)
+ASKED = re.compile(r"^help: `Goals` has no (.*?); rattle asks for (.*?)(?: and \d+ more)?(?:;|$)", re.M)
+NO_FIELD = re.compile(r"^(?:\./)?proofs/(\S+)/\w+\.antt:\S+ error: .*has no field `([^`]+)` \(nearest: ([^)]*)\)", re.M)
+ROUNDS = 4  # how often new names are put into proof files
 
 
 class Bad(Exception):
-    """An edit that can't be tried; the text says why."""
+    """An edit that shows nothing; the text says why."""
 
 
 class Edit:
@@ -80,6 +92,14 @@ class Edit:
         for path, old, new in pairs:
             replace(folder, path, old, new)
 
+    def fits(self):
+        """Bad where it can't be applied to the crate as it is."""
+        with tempfile.TemporaryDirectory() as folder:
+            for part in ("src", "specs"):
+                if (folder_of(self.crate) / part).is_dir():
+                    shutil.copytree(folder_of(self.crate) / part, Path(folder) / part)
+            self.apply(Path(folder))
+
 
 def replace(folder, path, old, new):
     """Replaces a text that a file of the crate has once."""
@@ -98,16 +118,31 @@ def replace(folder, path, old, new):
     file.write_text(text.replace(old, new))
 
 
-def edits_of(crate, everything):
-    """The edits of a crate, in the order of their labels. A file there that neither rt nor this program would try is an error."""
+def edits_of(crate):
+    """The edits of a crate, in the order of their labels. A file there that rt would not try is an error."""
     folder = folder_of(crate) / "must-fail"
     for file in folder.rglob("*"):
-        if file.is_file() and not (file.suffix == ".edit" and file.parent in (folder, folder / "quick")):
-            raise Failure(f"{file} is no edit: nobody tries it")
-    files = sorted((folder / "quick").glob("*.edit"))
-    if everything:
-        files += sorted(folder.glob("*.edit"))
-    return [Edit(crate, file.stem, file.read_text()) for file in files]
+        if file.is_file() and not (file.suffix == ".edit" and file.parent == folder):
+            raise Failure(f"{file.relative_to(ROOT)} is no edit that rt tries: those stand right in must-fail/")
+    return [Edit(crate, file.stem, file.read_text()) for file in sorted(folder.glob("*.edit"))]
+
+
+# ---- what rt says
+
+
+def said_of_edits(log):
+    """What rt said of edits, by crate and label: its line, and those that follow it."""
+    found, name = {}, None
+    for line in log.splitlines():
+        said = SAID.match(line)
+        if said:
+            name = said[1], said[2]
+            found[name] = said[3]
+        elif re.match(r"rt: |== |progress: |\d+ passed", line):
+            name = None
+        elif name:
+            found[name] += f"\n{line}"
+    return found
 
 
 def first_fault(said):
@@ -116,108 +151,222 @@ def first_fault(said):
     over."""
     for message in re.split(r"\n(?!  )", said):
         fault = FAULT.match(re.sub(r"\s+", " ", message))
-        if fault and FOLLOWS not in fault[0]:
+        if fault and not re.search(FOLLOWS, fault[0]):
             return fault["place"] or fault["place2"], fault["text"] or fault["text2"]
     return None, ""
 
 
-def verdict(status, said):
-    """Where the prover refused a crate, and at what; None where it did not. Bad where what it said shows nothing."""
-    if status == 0:
-        return None
-    if status == 3:
-        raise Bad("the prover could not tell")
-    if status != 1 or not re.search(r"^logic=not-proved", said, re.M):
-        raise Bad(f"it did not reach the prover (exit {status})")
-    place, text = first_fault(said)
+def place_of(place, text):
+    """Where a crate was refused, and at what. Bad where that shows nothing."""
     if place is None:
         raise Bad("the prover does not say what it refused")
-    if MISFIT.search(text):
-        raise Bad(f"a proof file does not fit the code, which shows nothing (first at {place})")
     if place.startswith("specs/"):
         raise Bad(f"a definition is not well formed, which shows nothing (first at {place})")
-    name = re.search(r"`[^`]+`", text)
-    return f"{place} {name[0]}" if name else place
+    if place.startswith("proofs/") and MISFIT.search(text):
+        raise Bad(f"a proof file does not fit the code, which shows nothing (first at {place})")
+    # the name of a fact ends its line; that of an answer or a lemma begins its error
+    names = re.findall(r"`[^`]+`", text)
+    return f"{place} {names[0 if text.startswith('`') else -1]}" if names else place
+
+
+def by_rt(text):
+    """Where the prover refused a crate, by what rt says of an edit; '' where that must be looked at again, None where it is not
+    refused. Bad where it shows nothing."""
+    if text.startswith("NOT REFUSED"):
+        return None
+    if text.startswith("NOT TRIED"):
+        raise Failure(text.removeprefix("NOT TRIED: "))
+    unread = re.match(r"BAD EDIT: the prover cannot read the edited text, .*?: (?:\./)?(specs/\S+): error", text)
+    if unread:
+        raise Bad(f"a definition is not well formed, which shows nothing (first at {unread[1]})")
+    if text.startswith("BAD EDIT: "):
+        raise Bad(text.removeprefix("BAD EDIT: "))
+    if text.startswith(f"{REFUSED} (only by a limit"):
+        raise Bad("the prover could not tell")
+    if not text.startswith(REFUSED):
+        raise Failure(f"rt said: {text}")
+    what = text.removeprefix(REFUSED).lstrip(": ")
+    if what.startswith(("(only because a proof file names", "note: ")):
+        return ""
+    return place_of(*first_fault(what))
+
+
+# ---- rt, over copies of the crates
+
+
+def rt(folder, *words, jobs=None):
+    """Runs rt in a folder: its exit status, and what it said."""
+    if not shutil.which("rt"):
+        raise Failure("the Rattle toolchain (rt) is not on the path")
+    given = {**os.environ, **({"RT_JOBS": str(jobs)} if jobs else {})}
+    pipes = {"stdin": subprocess.DEVNULL, "stdout": subprocess.PIPE, "stderr": subprocess.STDOUT}
+    try:
+        done = subprocess.run(["rt", *words], cwd=folder, env=given, text=True, errors="replace", timeout=LIMIT, **pipes)
+    except subprocess.TimeoutExpired:
+        raise Failure(f"rt did not end within {LIMIT} s") from None
+    return done.returncode, done.stdout
+
+
+def link(one, other):
+    """What was proved has a second name in a copy, where it can: a check replaces such a file, and never writes into it."""
+    try:
+        return os.link(one, other) if one.endswith(".oantt") else shutil.copy2(one, other)
+    except OSError:
+        return shutil.copy2(one, other)
 
 
 class Trial:
-    """Edits tried over what rt proved, in a folder that is removed afterwards."""
+    """Edits tried in copies of the crates, in a folder that is removed afterwards."""
 
-    def __init__(self, room):
+    def __init__(self, room, jobs, names):
         self.room = room
-        self.prover = Prover(room)
-        self.table = crates()
+        self.jobs = jobs
+        self.names = with_below(names)
+        self.base = room / "base"
+        self.copy_to(self.base)
+        self.making = threading.Lock()
+        self.lanes = [room / f"lane{number}" for number in range(jobs)]
+
+    def copy_to(self, top):
+        """The files of the crates that are proved, at a place of their own."""
+        for name in self.names:
+            for part in PARTS:
+                if (folder_of(name) / part).is_dir():
+                    shutil.copytree(folder_of(name) / part, top / "crates" / name / part)
+        rows = (ROOT / "crates.txt").read_text().splitlines(True)
+        (top / "crates.txt").write_text("".join(row for row in rows if (row.split(":")[0].split() or [""])[0] in self.names))
+        if (ROOT / "HANDLES").is_file():
+            shutil.copy(ROOT / "HANDLES", top)
+
+    def said(self, crate, edits):
+        """What rt says of edits of a crate, by crate and label."""
+        folder = self.base / "crates" / crate / "must-fail"
+        shutil.rmtree(folder, ignore_errors=True)
+        folder.mkdir()
+        for edit in edits:
+            (folder / f"{edit.label}.edit").write_text(edit.text)
+        status, said = rt(self.base, "must-fail", crate, jobs=self.jobs)
+        found = said_of_edits(said)
+        if status not in (0, 1) or len(found) != len(edits):
+            raise Failure(f"rt must-fail {crate} ended with status {status}, and said: {said.strip()[-600:]}")
+        return found
 
     def ready(self, crate):
-        """Fails where a crate can't be tried."""
-        if not (folder_of(crate) / "src/lib.rt").is_file():
-            raise Failure("it is no library, and only a library's modules are kept")
-        self.prover.nothing_left(crate, self.table[crate], self.room)
+        """Has the crate as it is checked, so that edits are checked over that."""
+        status, said = rt(self.base / "crates" / crate, "check", "--jobs", str(min(self.jobs, 4)))
+        if status != 0:
+            raise Failure(f"{crate} is not proved: run 'rt check' in its folder")
+        return self.base / "crates" / crate / "out" / "incremental"
 
-    def outcome(self, edit):
-        """What is to be said of an edit, and whether it was refused as it must be."""
-        began = time.monotonic()
-        folder = Path(tempfile.mkdtemp(dir=self.room))
+    def look(self, edit, kept):
+        """Where the prover refused a crate, and at what, once its proof files name what the edited code has; None where it is
+        proved. Bad where that shows nothing."""
+        lane = self.lanes.pop()
         try:
-            copy_of(edit.crate, folder)
+            if not lane.is_dir():
+                self.copy_to(lane)
+            folder = lane / "crates" / edit.crate
+            for part in PARTS:
+                shutil.rmtree(folder / part, ignore_errors=True)
+                if (folder_of(edit.crate) / part).is_dir():
+                    shutil.copytree(folder_of(edit.crate) / part, folder / part)
             edit.apply(folder)
-            self.prover.fill(edit.crate, folder / "checked")
-            status, said = self.prover.check(edit.crate, self.table[edit.crate], folder, folder / "checked")
-            said = said.replace(f"{folder}/", "")
-            log(edit, said)
-            place = verdict(status, said)
+            return self.looked(edit, folder, kept)
+        finally:
+            self.lanes.append(lane)
+
+    def looked(self, edit, folder, kept):
+        log = []
+        try:
+            for _ in range(ROUNDS):
+                shutil.rmtree(folder / "out" / "incremental", ignore_errors=True)
+                shutil.copytree(kept, folder / "out" / "incremental", copy_function=link)
+                status, said = rt(folder, "check", "--jobs", "1")
+                log.append(said)
+                if status == 0:
+                    return None
+                if status == 3:
+                    raise Bad("the prover could not tell")
+                if status != 1 or not re.search(r"^logic=not-proved", said, re.M):
+                    raise Bad(f"it did not reach the prover (exit {status})")
+                if not renamed(folder / "proofs", said):
+                    break
+            return place_of(*first_fault(said))
+        finally:
+            file = ROOT / "target" / "edits" / edit.crate / f"{edit.label}.log"
+            file.parent.mkdir(parents=True, exist_ok=True)
+            file.write_text("\n-- with new names in the proof files --\n".join(log))
+
+    def outcome(self, edit, text, kept):
+        """What is to be said of an edit, and whether it was refused as it must be."""
+        try:
+            edit.fits()
+            place = by_rt(text)
+            if place == "":
+                place = self.look(edit, kept())
         except Bad as why:
             return f"BAD EDIT: {why}", False
         except (Failure, OSError) as why:
             return f"NOT TRIED: {why}", False
-        finally:
-            shutil.rmtree(folder, ignore_errors=True)
-        took = f"{time.monotonic() - began:.0f} s"
         if place:
-            return f"refused, as it must be (first at {place}; {took})", True
-        return f"NOT REFUSED: the crate is still proved with this edit ({took})", False
+            return f"{REFUSED} (first at {place})", True
+        return "NOT REFUSED: the crate is still proved with this edit", False
 
 
-def log(edit, said):
-    file = TARGET / "edits" / edit.crate / f"{edit.label}.log"
-    file.parent.mkdir(parents=True, exist_ok=True)
-    file.write_text(said)
+def renamed(proofs, said):
+    """Puts names that the edited code has into proof files, in place of those that are gone; whether there were any."""
+    changes = {}
+    for function, old, nearest in NO_FIELD.findall(said):
+        new = re.findall(r"\.([^\s,]+)", nearest)
+        if len(new) == 1 or new and difflib.get_close_matches(old, new, 1):
+            changes.setdefault(function, {})[old] = difflib.get_close_matches(old, new, 1, 0)[0]
+    asked = {old: re.findall(r"`([^`]+)`", names) for olds, names in ASKED.findall(said) for old in re.findall(r"`([^`]+)`", olds)}
+    for function, old in NO_GOAL.findall(said):
+        answers = "".join(file.read_text() for file in (proofs / function).glob("*.antt"))
+        new = [name for name in asked.get(old, []) if not re.search(rf"\bgoal\.{re.escape(name)}(?![\w-])", answers)]
+        close = difflib.get_close_matches(old, new, 1, 0)
+        if close:
+            changes.setdefault(function, {})[old] = close[0]
+    for function, names in changes.items():
+        for file in (proofs / function).glob("*.antt"):
+            text = file.read_text()
+            for old, new in names.items():
+                text = re.sub(rf"(?<![\w-]){re.escape(old)}(?![\w-])", new, text)
+            file.write_text(text)
+    return bool(changes)
 
 
-def run(trial, edits, jobs, report):
-    """Tries edits, some at a time, and reports each as it is done. Where it is stopped, no more edits are started."""
-    pool = ThreadPoolExecutor(jobs)
-    try:
-        work = {pool.submit(trial.outcome, edit): edit for edit in edits}
-        for left, job in zip(range(len(work) - 1, -1, -1), as_completed(work)):
-            text, refused = job.result()
-            report(work[job], text, refused, left)
-    finally:
-        pool.shutdown(cancel_futures=True)
+def run(trial, edits, said, report):
+    """Tells what edits of one crate come to, by what rt said of them."""
+    made = []
 
+    def kept():
+        """What a check of the crate as it is kept, made once."""
+        with trial.making:
+            if not made:
+                made.append(trial.ready(edits[0].crate))
+        return made[0]
 
-def readied(trial, names, jobs):
-    """Why crates can't be tried, by their names; None for those that can."""
-
-    def why_not(name):
+    with ThreadPoolExecutor(trial.jobs) as pool:
+        work = {}
+        for edit in edits:
+            text = said.get((edit.crate, edit.label), "NOT TRIED: rt says nothing of it")
+            work[pool.submit(trial.outcome, edit, text, kept)] = edit
         try:
-            trial.ready(name)
-            return None
-        except (Failure, OSError) as why:
-            return why
-
-    with ThreadPoolExecutor(jobs) as pool:
-        return dict(zip(names, pool.map(why_not, names)))
+            for job in as_completed(work):
+                report(work[job], *job.result())
+        finally:
+            pool.shutdown(cancel_futures=True)
 
 
-def chosen(names, everything):
+def chosen(names):
     """The edits that are asked for, by their crates: names are those of crates, or CRATE/LABEL."""
     edits = {}
     for name in names or crates():
         crate, slash, label = name.partition("/")
         if crate not in crates():
             raise Failure(f"crates.txt has no crate {crate}")
-        found = [edit for edit in edits_of(crate, everything or slash) if not slash or edit.label == label]
+        found = [edit for edit in edits_of(crate) if not slash or edit.label == label]
         if slash and not found:
             raise Failure(f"{crate} has no edit {label}")
         if found:
@@ -225,53 +374,27 @@ def chosen(names, everything):
     return edits
 
 
-def await_proof(crate, since):
-    """Waits until a run of rt that started after a moment has proved a crate. rt's log of a crate ends with a line that says so."""
-    log_of = TARGET / "log" / f"{crate}.out"
-    while True:
-        try:
-            said = "\n" + log_of.read_text(errors="replace") if log_of.stat().st_mtime >= since else ""
-        except FileNotFoundError:
-            said = ""
-        if f"\nrt: {crate} proved" in said:
-            return
-        if f"\nrt: {crate} NOT PROVED" in said or time.time() > since + LIMIT:
-            raise Failure("rt did not prove it")
-        time.sleep(1)
-
-
-def by_proofs(trial, edits, since):
-    """Edits by their crates, the crates in rt's order, each once it is proved; why a crate can't be tried in place of its edits."""
-    for name in [name for name in crates() if name in edits]:
-        try:
-            await_proof(name, since)
-            trial.ready(name)
-            yield name, None
-        except (Failure, OSError) as why:
-            yield name, why
-
-
-def try_edits(trial, edits, jobs, since):
-    """Tries edits, given by their crates; how many were not refused as they must be. With a moment: beside a run of rt since then."""
+def try_edits(trial, edits, said):
+    """Tries edits, given by their crates; how many were not refused as they must be. said: what a run of rt said already."""
     total = left = sum(map(len, edits.values()))
     if not total:
         raise Failure("there is no edit to try")
     failed = []
 
-    def report(edit, text, refused, _):
+    def report(edit, text, refused):
         nonlocal left
         left -= 1
         print(f"edits: {edit}: {text}; {left} left", flush=True)
         if not refused:
             failed.append(edit)
 
-    for name, why in by_proofs(trial, edits, since) if since else readied(trial, list(edits), jobs).items():
-        if why:
-            print(f"edits: {name}: NOT TRIED: {why}", flush=True)
-            failed += edits.pop(name)
-        elif since:
-            run(trial, edits.pop(name), jobs, report)
-    run(trial, [edit for found in edits.values() for edit in found], jobs, report)
+    for crate in [name for name in crates() if name in edits]:
+        try:
+            run(trial, edits[crate], said if said is not None else trial.said(crate, edits[crate]), report)
+        except (Failure, OSError) as why:
+            print(f"edits: {crate}: NOT TRIED: {why}", flush=True)
+            left -= len(edits[crate])
+            failed += edits[crate]
     print(f"edits: {total - len(failed)} of {total} refused, as they must be")
     for edit in failed:
         print(f"edits: FAILED: {edit}")
@@ -287,9 +410,19 @@ CASES = {
         "n and k are compared the other way round, which says the same\n"
         "file: src/bits.rt\nold: if n <= power(k) {\nnew: if power(k) >= n {\n",
     ),
+    "says_the_same_of_a_number": (
+        "NOT REFUSED",
+        "the largest number takes another test, which says the same\n"
+        "file: src/bits.rt\nold:     if k < 32 {\nnew:     if k <= 31 {\n",
+    ),
     "wrong": (
         "refused, as it must be",
         "k is one too large where n is a power of 2\nfile: src/bits.rt\nold: if n <= power(k) {\nnew: if n < power(k) {\n",
+    ),
+    "wrong_under_a_new_name": (
+        "refused, as it must be",
+        "the low 31 bits are kept where k is 31, and all 32 too\n"
+        "file: src/bits.rt\nold:     if k < 32 {\nnew:     if k < 31 {\n",
     ),
     "text_not_there": (
         "BAD EDIT: an 'old:' text is 0 times",
@@ -301,42 +434,37 @@ CASES = {
     ),
     "misfit": (
         "BAD EDIT: a proof file does not fit the code",
-        "the low bits are not cut off, and the proof file asks for a need that is gone\n"
-        "file: src/bits.rt\nold: return number(bytes) % power(k);\nnew: return number(bytes);\n",
-    ),
-    "misfit_in_a_loop": (
-        "BAD EDIT: a proof file does not fit the code",
-        "the search goes on by another test, and the proof file goes by stages that are not there\n"
-        "file: src/bits.rt\nold:         k = k + 1;\nnew:         k = k + 1; if k > 40 { return k; }\n",
+        "the number of the 4 bytes has another name, under which it stands twice, and the proof file asks for the old one\n"
+        "file: src/bits.rt\nold:     number(bytes)\nnew:     let whole = wide(bytes[0]); let rest = number(bytes); if whole > rest { whole } else { rest }\n",
     ),
     "ill_formed": (
         "BAD EDIT: a definition is not well formed",
         "a definition takes a function for a number\n"
-        "file: specs/Fair.antt\nold: value bytes % 2 ^ bitsFor n\nnew: value bytes % bitsFor\n",
+        "file: specs/Fair.antt\nold: value bytes % 2 ^ bits_for n\nnew: value bytes % bits_for\n",
     ),
     "no_first_line": (
         "BAD EDIT: its first line must say",
         "file: src/bits.rt\nold: if n <= power(k) {\nnew: if n < power(k) {\n",
     ),
     "of_a_proof": (
-        "BAD EDIT: proofs/bits/bits_for/Proof.antt is no file under",
-        "a proof is edited\nfile: proofs/bits/bits_for/Proof.antt\nold: returns c\nnew: returns d\n",
+        "BAD EDIT: proofs/bits/bits_for/Answers.antt is no file under",
+        "a proof is edited\nfile: proofs/bits/bits_for/Answers.antt\nold: returns c\nnew: returns d\n",
     ),
 }
 
 
-def self_test(trial, jobs):
+def self_test(trial):
     """Whether each case is told for what it is; how many are not."""
-    trial.ready(CASES_OF)
     wrong = []
 
-    def report(edit, text, _, _left):
+    def report(edit, text, _):
         expected = CASES[edit.label][0]
         if not text.startswith(expected):
             wrong.append(edit)
             print(f"edits: self-test: {edit}: expected '{expected}', found '{text}'", flush=True)
 
-    run(trial, [Edit(CASES_OF, label, text) for label, (_, text) in CASES.items()], jobs, report)
+    edits = [Edit(CASES_OF, label, text) for label, (_, text) in CASES.items()]
+    run(trial, edits, trial.said(CASES_OF, edits), report)
     print(f"edits: self-test: {len(CASES) - len(wrong)} of {len(CASES)} edits are told for what they are")
     return len(wrong)
 
@@ -349,9 +477,8 @@ def wrong_usage(why):
 def arguments():
     parser = argparse.ArgumentParser(description=__doc__, formatter_class=argparse.RawDescriptionHelpFormatter)
     parser.add_argument("names", nargs="*", metavar="CRATE[/LABEL]", help="a crate, or one edit (default: all crates)")
-    parser.add_argument("--all", action="store_true", help="try the edits of must-fail/ too")
     parser.add_argument("--jobs", type=int, default=os.cpu_count() or 1, help="how many at a time (default: the processors)")
-    parser.add_argument("--beside-rt", action="store_true", help="wait for rt, which starts now, to prove each crate")
+    parser.add_argument("--said-by", metavar="LOG", help="go by what rt ci wrote into this file")
     parser.add_argument("--self-test", action="store_true", help="see that edits that show nothing are told")
     parser.error = wrong_usage
     options = parser.parse_args()
@@ -364,19 +491,40 @@ def stopped(_signal, _frame):
     sys.exit(130)
 
 
+def in_room(work):
+    """Runs work with a folder of its own. It is the same each time, since rt notes where checks were made."""
+    name = hashlib.sha256(str(ROOT).encode()).hexdigest()[:12]
+    room = Path(tempfile.gettempdir()) / f"edits-{os.getuid()}-{name}"
+    with open(f"{room}.lock", "w") as lock:
+        try:
+            fcntl.flock(lock, fcntl.LOCK_EX | fcntl.LOCK_NB)
+        except BlockingIOError:
+            raise Failure("another run of edits.py is at work in this checkout") from None
+        shutil.rmtree(room, ignore_errors=True)
+        room.mkdir(0o700)
+        try:
+            return work(room)
+        finally:
+            shutil.rmtree(room, ignore_errors=True)
+
+
 def main():
     options = arguments()
     signal.signal(signal.SIGTERM, stopped)
     signal.signal(signal.SIGINT, stopped)
-    with tempfile.TemporaryDirectory() as room:
-        try:
-            edits = chosen(options.names, options.all)
-            trial = Trial(Path(room))
-            since = BEGAN if options.beside_rt else None
-            failed = self_test(trial, options.jobs) if options.self_test else try_edits(trial, edits, options.jobs, since)
-        except Failure as why:
-            print(f"edits: {why}", file=sys.stderr)
-            sys.exit(2)
+
+    def work(room):
+        if options.self_test:
+            return self_test(Trial(room, options.jobs, [CASES_OF]))
+        edits = chosen(options.names)
+        said = said_of_edits(Path(options.said_by).read_text(errors="replace")) if options.said_by else None
+        return try_edits(Trial(room, options.jobs, edits), edits, said)
+
+    try:
+        failed = in_room(work)
+    except (Failure, OSError) as why:
+        print(f"edits: {why}", file=sys.stderr)
+        sys.exit(2)
     sys.exit(1 if failed else 0)
 
 

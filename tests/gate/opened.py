@@ -5,7 +5,8 @@
     tests/gate/opened.py --check    compare them with tests/gate/opened.txt, which is read beside docs/decisions/layers.md
 
 An upper crate relies on the contracts and laws of the lower ones. Where its proofs open a definition instead (`unfolding`,
-`unfold .. in`), a change of that text can reach them, so what is opened is kept as a list, and a new entry has to be meant.
+`unfold .. in`, `#[tactic(auto, unfolding(..))]`), a change of that text can reach them, so what is opened is kept as a list,
+and a new entry has to be meant.
 Tables compute, and open whatever their rows read: the files named in TABLES are left out."""
 import difflib
 import re
@@ -16,9 +17,11 @@ from pathlib import Path
 ROOT = Path(__file__).resolve().parents[2]
 STORED = ROOT / "tests/gate/opened.txt"
 TABLES = {f"{name}.antt" for name in ("Boundaries", "Computing", "Examples", "PublishedVector", "QuotaRows", "Readings")}
-IMPORT = re.compile(r"^use Rattle·(\w+)\.(?:specs|proofs)\.[\w.-]+?(?:\.\{([^}]*)\}| as (\S+))$", re.M)
+IMPORT = re.compile(r"^(?:(?:pub|unfoldable) )*use Rattle\.(\w+)\.(?:specs|proofs)\.[\w.-]+?(?:\.\{([^}]*)\}| as (\S+))$", re.M)
 # an `unfolding` goes on in lines that are indented further
 OPENED = re.compile(r"^( *)unfolding (.*(?:\n\1 +.*)*)$|\bunfold ((?:\S+ )+?)in\b", re.M)
+# what a function has its own proof open: #[tactic(auto, unfolding(pools::specs::Calls::number))]
+TACTIC = re.compile(r"\bunfolding\(([^)]*)\)")
 
 
 def imported(text):
@@ -52,6 +55,12 @@ def lines():
         if path.name not in TABLES:
             for below, name in opened_in(path.read_text()):
                 found[crate, below].add(name)
+    for path in (ROOT / "crates").glob("*/src/**/*.rt"):
+        crate = path.relative_to(ROOT / "crates").parts[0]
+        for names in TACTIC.findall(path.read_text()):
+            for name in names.split(","):
+                below, *_, last = name.strip().split("::")
+                found[crate, below if below != "crate" else crate].add(last)
     return [f"{crate} opens of {below}: {' '.join(sorted(names))}\n" for (crate, below), names in sorted(found.items()) if crate != below]
 
 

@@ -1,78 +1,66 @@
 #!/usr/bin/env python3
-"""Runs rt, and says which crates are being proved and how many are left.
+"""Runs rt ci, and says how far it is.
 
-    tests/gate/progress.py [--brief] rt check|prove|must-fail|ci [CRATE...]
+    tests/gate/progress.py [--brief] rt ci [CRATE...]
 
-rt prints what it has to say of a crate once the crate is proved, a minute later. What rt prints is passed on; between it stand
-lines 'progress: proving A, B; N of M crates left'. With --brief these lines alone are printed, and what rt said where it fails.
-The exit status is rt's."""
+rt says of a crate that it is proved once it is, minutes later, and of its edits what they came to at the very end. What rt
+prints is passed on; between it stand lines 'progress: 3 min, 4 of 22 crates left, on A, B; edits of C, D', where something
+has changed, and every few minutes. A and B are those whose libraries are proved: rt takes as many at a time as there are
+processors. With --brief these lines alone are printed, and what rt said where it fails. The exit status is rt's."""
+import re
 import subprocess
 import sys
 import threading
 import time
 
-from prover import TARGET, crates
+from crates import ROOT, crates, with_below
 
-PAUSE = 0.5  # seconds between two looks at target/log
-SOON = 1.0  # seconds in which a crate that has not changed is done: nothing is said of it
-
-
-def wanted(names):
-    """The crates that rt proves for these names, and all for none: what they are built on is proved too."""
-    table = crates()
-    found = set()
-    todo = list(names or table)
-    while todo:
-        name = todo.pop()
-        if name in table and name not in found:
-            found.add(name)
-            todo += table[name]
-    return found
+PAUSE = 0.5  # seconds between two looks at what rt has said
+SOON = 2.0  # seconds in which a crate that has not changed is done: nothing is said of it
+EVERY = 300  # seconds after which the same is said again
+ENDED = re.compile(r"rt: (\w+) (proved|NOT PROVED|is kept: )")
+EDITS = re.compile(r"rt: (\w+): trying its must-fail edits")
 
 
 class Progress:
-    """What the logs of rt say of crates. rt starts target/log/NAME.out where it starts on a crate; a line there says the end."""
+    """What rt ci has said of the crates that it proves: those named, with those below them, or all."""
 
     def __init__(self, names):
-        self.names = wanted(names)
-        self.before = {name: self.started(name) for name in self.names}
+        self.table = crates()
+        self.left = with_below(names or self.table)
+        self.count = len(self.left)
+        self.tried = []
+        self.began = self.told_at = self.changed_at = time.monotonic()
         self.told = None
 
-    @staticmethod
-    def file(name):
-        return TARGET / "log" / f"{name}.out"
-
-    def started(self, name):
-        try:
-            return self.file(name).stat().st_mtime_ns
-        except FileNotFoundError:
-            return None
-
-    def age(self, name):
-        return time.time() - (self.started(name) or time.time_ns()) / 1e9
-
-    def ended(self, name):
-        try:
-            return f"\nrt: {name} " in "\n" + self.file(name).read_text(errors="replace")
-        except FileNotFoundError:
-            return False
+    def take(self, line):
+        ended, edits = ENDED.match(line), EDITS.match(line)
+        if ended and ended[1] in self.left:
+            self.left.remove(ended[1])
+        elif edits:
+            self.tried.append(edits[1])
+        else:
+            return
+        self.changed_at = time.monotonic()
 
     def line(self):
-        """What to say, where crates are being proved that were not when this was asked last."""
-        begun = [name for name in sorted(self.names) if self.started(name) not in (None, self.before[name])]
-        ended = {name for name in begun if self.ended(name)}
-        running = [name for name in begun if name not in ended and self.age(name) > SOON]
-        if not running or running == self.told:
+        """What to say, if anything."""
+        now = time.monotonic()
+        on = [name for name in self.left if not set(self.table[name]) & set(self.left)]
+        said = f"{len(self.left)} of {self.count} crates left" + (f", on {', '.join(on)}" if on else "")
+        said += f"; edits of {', '.join(self.tried)}" if self.tried else ""
+        if now - self.changed_at < SOON or said == self.told and now - self.told_at < EVERY:
             return None
-        self.told = running
-        return f"progress: proving {', '.join(running)}; {len(self.names) - len(ended)} of {len(self.names)} crates left"
+        self.told, self.told_at = said, now
+        return f"progress: {(now - self.began) / 60:.0f} min, {said}"
 
 
-def pass_on(stream, lines, brief, lock):
+def pass_on(stream, progress, lines, brief, lock):
     """Takes what rt prints, line by line."""
     for line in stream:
         with lock:
             lines.append(line)
+            progress.take(line)
             if not brief:
                 print(line, end="", flush=True)
 
@@ -82,16 +70,16 @@ def watched(command, brief):
     progress = Progress(command[2:])
     lock = threading.Lock()
     lines = []
-    rt = subprocess.Popen(command, stdout=subprocess.PIPE, stderr=subprocess.STDOUT, text=True, errors="replace")
-    reader = threading.Thread(target=pass_on, args=(rt.stdout, lines, brief, lock), daemon=True)
+    pipes = {"stdin": subprocess.DEVNULL, "stdout": subprocess.PIPE, "stderr": subprocess.STDOUT}
+    rt = subprocess.Popen(command, cwd=ROOT, text=True, errors="replace", **pipes)
+    reader = threading.Thread(target=pass_on, args=(rt.stdout, progress, lines, brief, lock), daemon=True)
     reader.start()
     while reader.is_alive():
-        time.sleep(PAUSE)
-        said = progress.line()
-        if said and reader.is_alive():
-            with lock:
+        reader.join(PAUSE)
+        with lock:
+            said = progress.line() if reader.is_alive() else None
+            if said:
                 print(said, flush=True)
-    reader.join()
     status = rt.wait()
     if brief and status != 0:
         print("".join(lines), end="", flush=True)
@@ -101,8 +89,8 @@ def watched(command, brief):
 def main(args):
     brief = args[:1] == ["--brief"]
     command = args[1:] if brief else args
-    if command[:1] != ["rt"] or command[1:2] not in (["check"], ["prove"], ["must-fail"], ["ci"]):
-        print("progress: expected [--brief] rt check|prove|must-fail|ci [CRATE...]; --help says more", file=sys.stderr)
+    if command[:2] != ["rt", "ci"]:
+        print("progress: expected [--brief] rt ci [CRATE...]; --help says more", file=sys.stderr)
         return 2
     return watched(command, brief)
 

@@ -1,9 +1,17 @@
 // The bench: carries out each line of standard input from a fresh state, and prints a line for each.
 #![tactic(auto)]
+
 use bench::input::{LINE_BUFFER, finish, step};
 use bench::line::MAX_OUTPUT;
-use libc::{EAGAIN, EINTR, STDERR_FILENO, STDIN_FILENO, STDOUT_FILENO};
 use pools::Fortuna;
+use std::io;
+use std::io::{ErrorKind, Read};
+use std::rt::Clock;
+use std::thread::sleep;
+use std::time::Duration;
+
+// The most that one read takes.
+const CHUNK: usize = 65536;
 
 // The state, how many characters of the line so far are held, and whether to read on. Where a read or a write failed, nothing
 // more is read and no line is held.
@@ -15,54 +23,57 @@ struct Session {
 }
 
 // Whether to make a read or a write again that has just failed: a signal came first (EINTR), or the descriptor does not wait and
-// had nothing, or no room, yet (EAGAIN). The kit has no poll, so that another process is let run in its place.
-fn passes() -> bool {
-    let error = os::errno();
-    if error == EAGAIN {
-        libc::sched_yield();
+// had nothing, or no room, yet (EAGAIN). The library has no poll, so that the program sleeps for a moment, and others run.
+fn passes(rt: &impl Clock, error: &io::Error) -> bool {
+    let kind = error.kind();
+    if kind == ErrorKind::WouldBlock {
+        sleep(rt, Duration::from_micros(100));
         return true;
     }
-    error == EINTR
+    kind == ErrorKind::Interrupted
 }
 
-// Whether to go on after a write that answered got; where not, standard error is told why.
-fn took(got: isize) -> bool {
-    if got > 0 {
-        return true;
-    }
-    if got == 0 {
-        io::write_all(STDERR_FILENO, b"bench: standard output takes nothing\n");
-        return false;
-    }
-    if passes() {
-        return true;
-    }
-    os::fail(b"bench: standard output could not be written");
-    false
+// Tells standard error what ends the program. Where that cannot be written either, nothing is left to tell it to.
+fn complain(rt: &impl Eprint, what: &str) {
+    let _ = eprintln!(rt; "bench: {what}");
+}
+
+// The same, with the system's reason.
+fn fail(rt: &impl Eprint, what: &str, error: io::Error) {
+    let _ = eprintln!(rt; "bench: {what}: {error}");
 }
 
 // Writes all of out to standard output, and returns whether that worked. Nothing says that a descriptor ever takes a byte, so the
-// loop counts its turns down, as run does.
-fn write_out(out: &[u8]) -> bool {
+// loop counts its turns, as run does.
+fn write_out(rt: &(impl Print + Eprint + Clock), out: &[u8]) -> bool {
     let mut done = 0;
-    let mut turns = u64::MAX;
-    while turns > 0 && done < out.len() {
-        turns -= 1;
-        let got = libc::write(STDOUT_FILENO, &out[done..]);
-        if !took(got) {
-            return false;
+    for _ in 0..u64::MAX {
+        if done >= out.len() {
+            return true;
         }
-        done += io::count(got, &out[done..]);
+        match rt.write_some(&out[done..]) {
+            Ok(0) => {
+                complain(rt, "standard output takes nothing");
+                return false;
+            }
+            Ok(n) => done += n,
+            Err(error) => {
+                if !passes(rt, &error) {
+                    fail(rt, "standard output could not be written", error);
+                    return false;
+                }
+            }
+        }
     }
-    done == out.len()
+    false
 }
 
 // Writes the first characters of out to standard output, and returns whether that worked.
-fn show(out: &[u8], written: usize) -> bool {
+fn show(rt: &(impl Print + Eprint + Clock), out: &[u8], written: usize) -> bool {
     if written <= out.len() {
-        return write_out(&out[..written]);
+        return write_out(rt, &out[..written]);
     }
-    io::write_all(STDERR_FILENO, b"bench: an answer has no room\n");
+    complain(rt, "an answer has no room");
     false
 }
 
@@ -77,6 +88,7 @@ fn stopped(state: Fortuna) -> Session {
 
 // Carries out the lines that end in a chunk.
 fn feed(
+    rt: &(impl Print + Eprint + Clock),
     state: Fortuna,
     held: usize,
     text: &mut [u8; LINE_BUFFER],
@@ -88,7 +100,7 @@ fn feed(
     let mut at = 0;
     while at < chunk.len() {
         let o = step(s, text, n, &chunk[at..], out);
-        if !show(out, o.written) {
+        if !show(rt, out, o.written) {
             return stopped(s);
         }
         let next = o.next;
@@ -105,51 +117,55 @@ fn feed(
 
 // Reads once, and carries out the lines that end in what came.
 fn turn(
+    rt: &(impl Print + Eprint + Clock),
+    input: &mut impl Read,
     state: Fortuna,
     held: usize,
     text: &mut [u8; LINE_BUFFER],
     out: &mut [u8; MAX_OUTPUT],
 ) -> Session {
-    let mut chunk = io::large_buffer();
-    let got = libc::read(STDIN_FILENO, &mut chunk);
-    if got < 0 {
-        if passes() {
-            return Session {
-                state,
-                held,
-                on: true,
-            };
-        }
-        os::fail(b"bench: standard input could not be read");
-        return stopped(state);
-    }
-    if got == 0 {
-        return Session {
+    let mut chunk = [0u8; CHUNK];
+    match input.read(&mut chunk) {
+        Ok(0) => Session {
             state,
             held,
             on: false,
-        };
+        },
+        Ok(n) => feed(rt, state, held, text, &chunk[..n], out),
+        Err(error) => {
+            if passes(rt, &error) {
+                return Session {
+                    state,
+                    held,
+                    on: true,
+                };
+            }
+            fail(rt, "standard input could not be read", error);
+            stopped(state)
+        }
     }
-    let n = io::count(got, &chunk);
-    feed(state, held, text, &chunk[..n], out)
 }
 
-// Nothing says that an input ends, so the loop counts its turns down from a number that no run uses up.
-fn run(text: &mut [u8; LINE_BUFFER], out: &mut [u8; MAX_OUTPUT]) {
+// Nothing says that an input ends, so the loop counts its turns to a number that no run uses up.
+fn run(
+    rt: &(impl Print + Eprint + Clock),
+    input: &mut impl Read,
+    text: &mut [u8; LINE_BUFFER],
+    out: &mut [u8; MAX_OUTPUT],
+) {
     let mut state = Fortuna::new();
     let mut held = 0;
-    let mut on = true;
-    let mut turns = u64::MAX;
-    while turns > 0 && on {
-        turns -= 1;
-        let s = turn(state, held, text, out);
+    for _ in 0..u64::MAX {
+        let s = turn(rt, input, state, held, text, out);
         let next = s.state;
         state = next;
         held = s.held;
-        on = s.on;
+        if !s.on {
+            break;
+        }
     }
     let written = finish(state, text, held, out);
-    show(out, written);
+    show(rt, out, written);
 }
 
 // Room for what a line prints.
@@ -157,8 +173,8 @@ fn output_buffer() -> [u8; MAX_OUTPUT] {
     [0u8; MAX_OUTPUT]
 }
 
-fn main() {
+fn main(rt: HostRuntime) {
     let mut text = [0u8; LINE_BUFFER];
     let mut out = output_buffer();
-    run(&mut text, &mut out);
+    run(&rt, &mut rt.stdin(), &mut text, &mut out);
 }

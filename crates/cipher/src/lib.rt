@@ -1,5 +1,6 @@
 // AES-256 encryption (FIPS 197).
 #![tactic(auto)]
+
 mod block;
 mod field;
 mod key;

@@ -1,6 +1,7 @@
 // CTR_DRBG of NIST SP 800-90A (10.2.1) with AES-256 and no derivation function, for permanent stations. Its state has nothing to do
 // with pools or timer.
 #![tactic(auto)]
+
 mod answer;
 mod counter;
 mod output;

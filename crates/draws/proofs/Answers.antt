@@ -11,7 +11,7 @@ use Rattle.pools.specs.Refusals.{and_then}
 use Rattle.pools.specs.Effects.{Effect, unchanged}
 use Rattle.pools.specs.Draws.{Drawn, tries, shuffled, try_at}
 use Rattle.pools.specs.Calls.{Call, draw, shuffle, input_buffer, call_number, call_effect, call_found, call_value, outcome, step}
-use Rattle.pools.specs.Promises.{number, GivesValue, GivesBytes}
+use Rattle.pools.specs.Promises.{GivesValue, GivesBytes}
 use Rattle.pools.specs.declared.Fortuna.{Fortuna}
 use Rattle.pools.specs.declared.Outcome.{Outcome}
 use Rattle.pools.proofs.EachTry.{idle-shuffle}

@@ -1,5 +1,6 @@
 // The Fortuna generator (004, 9.4): a key and a counter that give blocks of the cipher. It ships alone.
 #![tactic(auto)]
+
 mod answer;
 mod counter;
 mod output;

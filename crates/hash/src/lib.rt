@@ -1,5 +1,6 @@
 // SHA-256 (FIPS 180-4): of a slice, of a message that comes in parts; and D, the book's SHA_d-256, as Fortuna's pools need it.
 #![tactic(auto)]
+
 mod answer;
 mod block;
 mod bytes;

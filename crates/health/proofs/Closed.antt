@@ -1,8 +1,8 @@
 -- The two tests over the places of the samples, the state after samples of a fresh start, and which sample fails first.
 -- Assumes nothing.
-use mathlib.Core.Path.{◌≡◌, refl, sym, ap, ap₂, subst, ◌∙◌}
+use mathlib.Core.Path.{◌≡◌, refl, sym, ap, ap₂, ◌∙◌}
 use mathlib.Core.Bool.{Bool, true, false, cond, ◌||◌, true≢false}
-use mathlib.Core.Logic.{◌↔◌, ◌⊎◌, inl, inr, ⊎_elim}
+use mathlib.Core.Logic.{◌↔◌, inl, inr, ⊎_elim}
 use mathlib.Core.List.{List, [], ◌∷◌, ◌++◌}
 use Prim.Native.Nat.{ℕ, zero, suc, ◌+◌, ◌-◌, ◌*◌, ◌/◌, ◌≤◌, ◌<◌}
 use native.Mathlib.Numerals.{add-one}
@@ -15,14 +15,13 @@ use Rattle.laws.specs.Lists.{count_of}
 use Rattle.laws.proofs.Cases.{by-test, split, neither}
 use Rattle.laws.proofs.Counts.{count-append}
 use Rattle.health.specs.Samples.{window_size, run_after, repetition_fails, first_after, count_after, proportion_fails, fails, noted}
-use Rattle.health.specs.Calls.{out_of_range, fresh, tested}
+use Rattle.health.specs.Calls.{fresh}
 use Rattle.health.specs.Statements.{sample_at, noted_all, repetition_fails_at, proportion_fails_at, fails_at, IsFirst}
 use Rattle.health.specs.Closed.{LastEqual, run_ending_at, RunLaw, window_start, count_at, WindowLaw, FailsByLaw, open_window}
 use Rattle.health.specs.Closed.{state_after, StateLaw, FailsNeither, FailsFirst, FirstFailureClosedLaw}
 use Rattle.health.specs.declared.HealthState.{HealthState}
 use Rattle.health.specs.declared.Outcome.{Outcome}
-use Rattle.health.specs.declared.Answer.{Answer}
-use Rattle.health.specs.declared.Answer.TheVariants.{Passed, Failed, CutoffRange, Malformed}
+use Rattle.health.specs.declared.Answer.TheVariants.{Passed}
 use Rattle.health.proofs.Cutting.{accepted-again}
 use Rattle.health.proofs.Failing.{first-failure}
 

@@ -10,8 +10,8 @@ use lib.Dec.{ltb}
 use lib.ListN.{length}
 use borrow.Author.Tests.{ltb-true, ltb-false}
 use Rattle.laws.proofs.Cases.{by-test}
-use Rattle.health.specs.Samples.{noted, Result, passed, failed, test_from}
-use Rattle.health.specs.Calls.{out_of_range, malformed, fresh, outcome_of, tested, number}
+use Rattle.health.specs.Samples.{noted, passed, failed, test_from}
+use Rattle.health.specs.Calls.{out_of_range, malformed, fresh, outcome_of, tested}
 use Rattle.health.specs.Statements.{noted_all, repetition_fails_at, proportion_fails_at, fails_at, NoneFails, IsFirst, FirstFailure, FirstFailureLaw}
 use Rattle.health.specs.declared.HealthState.{HealthState}
 use Rattle.health.specs.declared.Outcome.{Outcome}

@@ -1,7 +1,7 @@
 -- The number of a call, and what an accepted call has passed.
 -- Assumes nothing.
 use mathlib.Core.Path.{◌≡◌, refl, sym, subst, ◌∙◌}
-use mathlib.Core.Bool.{true, false, ◌||◌}
+use mathlib.Core.Bool.{false, ◌||◌}
 use mathlib.Core.List.{List}
 use Prim.Native.Nat.{ℕ, ◌<◌}
 use native.Mathlib.Omega.{arith}
@@ -10,7 +10,7 @@ use Rattle.laws.proofs.Cases.{by-test, neither}
 use Rattle.laws.proofs.Refusals.{passed as passed-test}
 use Rattle.health.specs.Samples.{Result, passed, failed, test_from}
 use Rattle.health.specs.Calls.{out_of_range, malformed, failed_at, outcome_of, tested, number}
-use Rattle.health.specs.Statements.{Refuses, RefusalLaw, NumberTells}
+use Rattle.health.specs.Statements.{RefusalLaw, NumberTells}
 use Rattle.health.specs.declared.HealthState.{HealthState}
 use Rattle.health.specs.declared.Outcome.{Outcome}
 use Rattle.health.specs.declared.Answer.TheVariants.{Passed, Failed, CutoffRange, Malformed}

@@ -1,7 +1,7 @@
 -- A second reading of SP 800-90B, 4.4.1 and 4.4.2: which sample fails, by the places of the samples alone and with no state, and the state after
 -- samples of a fresh start.
 -- Assumes nothing.
-use Rattle.std.specs.Prelude.{◌≡◌, Bool, true, false, cond, ◌||◌, ◌↔◌, ◌⊎◌, List, [], ◌∷◌, ℕ, zero, suc, ◌+◌, ◌*◌, ◌/◌, ◌≤◌, ◌<◌, eqb, length, take, get_or}
+use Rattle.std.specs.Prelude.{◌≡◌, Bool, true, false, cond, ◌||◌, ◌↔◌, ◌⊎◌, List, ℕ, zero, suc, ◌+◌, ◌*◌, ◌/◌, ◌≤◌, ◌<◌, eqb, length, take, get_or}
 use Rattle.std.proofs.Math.Seq.{slice}
 use Rattle.laws.specs.Lists.{count_of}
 use Rattle.health.specs.Samples.{window_size}

@@ -1,6 +1,7 @@
 // Health tests of a noise source: the repetition count test and the adaptive proportion test of NIST SP 800-90B (4.4.1, 4.4.2), over a lent run
 // of samples (02 (vi)). They stand before samples become events, and have nothing to do with a station's state.
 #![tactic(auto)]
+
 mod refusals;
 mod sample;
 

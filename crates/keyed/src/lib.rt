@@ -1,5 +1,6 @@
 // Fortuna with the pools chosen by key: the scheduler of source document 000, figure 6.
 #![tactic(auto)]
+
 mod refusals;
 mod scheduler;
 

@@ -1,5 +1,6 @@
 // Helpers on bytes and blocks that several crates need.
 #![tactic(auto)]
+
 ghost use Rattle.std.specs.Prelude.{◌≡◌, ◌⊎◌, ◌≤◌, min};
 ghost use Rattle.laws.specs.Lists.{overwrite, all_zero};
 ghost use Rattle.laws.specs.Blocks.{block_count};

@@ -1,6 +1,6 @@
 -- What is known of each pool where none is malformed.
 -- Assumes nothing.
-use Rattle.std.proofs.Common.{◌≡◌, ℕ, zero, suc, ◌<◌, ◌≤◌, Bool, true, false, ◌||◌, List, [], ◌∷◌, ◌++◌, length, refl, ◌∙◌, true≢false, le_refl, le_of_suc-le-suc, not-suc-le-zero, arith, ltb-false}
+use Rattle.std.proofs.Common.{◌≡◌, ℕ, zero, suc, ◌<◌, ◌≤◌, Bool, false, ◌||◌, List, [], ◌∷◌, ◌++◌, length, refl, ◌∙◌, le_refl, le_of_suc-le-suc, not-suc-le-zero, arith, ltb-false}
 use Rattle.laws.specs.Lists.{tabulate}
 use Rattle.laws.proofs.Cases.{neither}
 use Rattle.hash.specs.ShaD.{max_pool_length, pool_digest}

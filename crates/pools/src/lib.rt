@@ -1,5 +1,6 @@
 // Fortuna: the generator with 32 pools, the timer of the pool reseeds, and seeds (004, 9.5 and 9.6).
 #![tactic(auto)]
+
 mod answer;
 mod events;
 mod refusals;

@@ -1,5 +1,6 @@
 // A lent list of quotas (02 (x)): for each source its allowance in bytes and the bytes spent.
 #![tactic(auto)]
+
 ghost use Rattle.std.specs.Prelude.{◌≡◌, ◌<◌, ◌+◌, ◌^◌};
 ghost use Rattle.quotas.specs.Records.{place_from, quotas_number, charged_by, unspent, cleared};
 ghost use Rattle.quotas.specs.Charges.{comes_first, verdict_of, unlisted_of, charge_number, charge_list, cleared_after};

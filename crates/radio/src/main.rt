@@ -1,7 +1,9 @@
 // The example of the README: a polling list is shuffled and a slot is drawn for each station. Writes the list, then the slots, a byte each.
 #![tactic(auto)]
+
 use draws::{random_below, shuffle};
 use pools::Fortuna;
+use std::io;
 
 const STATIONS: usize = 12;
 
@@ -9,7 +11,7 @@ const SLOTS: u64 = 200;
 
 const CLOCK: u32 = 1000;
 
-fn main() {
+fn main(rt: HostRuntime) -> io::Result<()> {
     let mut seed = [7u8; 64];
     seed[0] = 1; // not blank
     let seeded = Fortuna::new().update_seed(CLOCK, &mut seed);
@@ -26,5 +28,5 @@ fn main() {
         bytes[STATIONS + i] = (drawn.value % 256) as u8;
         i += 1;
     }
-    io::write_all(libc::STDOUT_FILENO, &bytes);
+    rt.write_all(&bytes)
 }

@@ -1,12 +1,16 @@
 // The example of the README: 48 bytes drawn from a seed with the generator alone.
 #![tactic(auto)]
-fn main() {
+
+use std::io;
+
+fn main(rt: HostRuntime) -> io::Result<()> {
     let seeded = generator::Generator::new().reseed(b"synthetic tremor, run 17");
     let state = seeded.next;
     let mut bytes = [0u8; 48];
     let drawn = state.pseudo_random_data(&mut bytes);
     let answer = drawn.answer;
     if answer.is_done() {
-        io::write_all(libc::STDOUT_FILENO, &bytes);
+        rt.write_all(&bytes)?;
     }
+    Ok(())
 }

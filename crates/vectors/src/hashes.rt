@@ -3,6 +3,7 @@ use crate::lines;
 use crate::parts::{after, front};
 use crate::text::number;
 use hash::{Hashed, Hasher};
+use std::io;
 
 // A state that no message is known for: another hash value, and a tail with no zeros after its bytes.
 fn given(count: u64) -> Hasher {
@@ -64,18 +65,16 @@ fn hashed(call: u8, data: &[u8], state: Hasher) -> Hashed {
 }
 
 // Prints a digest; for a capital the answer's number, with A that of absorbing the line's bytes.
-pub(crate) fn answer(call: u8, data: &[u8], state: Hasher) {
+pub(crate) fn answer(rt: &impl Print, call: u8, data: &[u8], state: Hasher) -> io::Result<()> {
     if call == b'A' {
         let a = state.absorb(data);
         let answer = a.answer;
-        lines::number(b"", answer.number() as u64);
-        return;
+        return lines::number(rt, b"", answer.number() as u64);
     }
     let h = hashed(call, data, state);
     if call < 97 {
         let answer = h.answer;
-        lines::number(b"", answer.number() as u64);
-        return;
+        return lines::number(rt, b"", answer.number() as u64);
     }
-    lines::bytes(b"", &h.digest);
+    lines::bytes(rt, b"", &h.digest)
 }

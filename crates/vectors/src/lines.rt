@@ -1,41 +1,43 @@
 // What is printed.
-use crate::text::wide;
-use libc::STDOUT_FILENO;
+use std::io;
 
-fn write(text: &[u8]) {
-    io::write_all(STDOUT_FILENO, text);
+fn write(rt: &impl Print, text: &[u8]) -> io::Result<()> {
+    rt.write_all(text)
 }
 
 // A text and a number.
-pub(crate) fn number(text: &[u8], n: u64) {
-    write(text);
-    io::print_decimal(STDOUT_FILENO, n);
+pub(crate) fn number(rt: &impl Print, text: &[u8], n: u64) -> io::Result<()> {
+    write(rt, text)?;
+    print!(rt; "{n}")
 }
 
 // A text and bytes.
-pub(crate) fn bytes(text: &[u8], bytes: &[u8]) {
-    write(text);
-    for i in 0..bytes.len() {
-        io::print_hex(STDOUT_FILENO, wide(bytes[i]), 2);
+pub(crate) fn bytes(rt: &impl Print, text: &[u8], bytes: &[u8]) -> io::Result<()> {
+    write(rt, text)?;
+    for b in bytes {
+        print!(rt; "{b:02x}")?;
     }
+    Ok(())
 }
 
 // The title of an answer, and its end; nothing where there is no title.
-pub(crate) fn title(title: &[u8]) {
+pub(crate) fn title(rt: &impl Print, title: &[u8]) -> io::Result<()> {
     if title.len() > 0 {
-        write(title);
-        write(b": ");
+        write(rt, title)?;
+        write(rt, b": ")?;
     }
+    Ok(())
 }
 
-pub(crate) fn end(title: &[u8]) {
+pub(crate) fn end(rt: &impl Print, title: &[u8]) -> io::Result<()> {
     if title.len() > 0 {
-        write(b"\n");
+        write(rt, b"\n")?;
     }
+    Ok(())
 }
 
-pub(crate) fn not_understood(line: &[u8]) {
-    write(b"not understood: ");
-    write(line);
-    write(b"\n");
+pub(crate) fn not_understood(rt: &impl Print, line: &[u8]) -> io::Result<()> {
+    write(rt, b"not understood: ")?;
+    write(rt, line)?;
+    write(rt, b"\n")
 }

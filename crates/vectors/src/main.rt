@@ -5,6 +5,7 @@
 // printed: the line sets a state for later ones. tests/independent/vectors.py writes the cases, and works out
 // the answers without this program.
 #![tactic(auto)]
+
 mod ciphers;
 mod generators;
 mod hashes;
@@ -14,8 +15,8 @@ mod text;
 
 use generator::Generator;
 use hash::Hasher;
-use libc::STDIN_FILENO;
-use parts::{ROOM, after, at, front, line_length, space};
+use parts::{ROOM, after, at, front, line_length, read_full, space};
+use std::io;
 use text::decode;
 
 // The most bytes of a case.
@@ -80,52 +81,58 @@ fn is_case(line: &[u8], n: usize, left: &[u8]) -> bool {
 }
 
 // The call of a case.
-fn called(letter: u8, call: u8, data: &[u8], held: Held, out: &mut [u8; ROOM]) -> Held {
+fn called(
+    rt: &impl Print,
+    letter: u8,
+    call: u8,
+    data: &[u8],
+    held: Held,
+    out: &mut [u8; ROOM],
+) -> io::Result<Held> {
     let hasher = held.hasher;
     let generator = held.generator;
     if letter == b'h' {
-        hashes::answer(call, data, hasher);
-        return held;
+        hashes::answer(rt, call, data, hasher)?;
+        return Ok(held);
     }
     if letter == b'c' || letter == b'w' {
-        ciphers::answer(letter, call, data);
-        return held;
+        ciphers::answer(rt, letter, call, data)?;
+        return Ok(held);
     }
     if letter == b'H' {
         let next = hashes::set(call, data, hasher);
-        return Held {
+        return Ok(Held {
             hasher: next,
             generator: generator,
-        };
+        });
     }
-    let next = generators::called(call, data, generator, out);
-    Held {
+    let next = generators::called(rt, call, data, generator, out)?;
+    Ok(Held {
         hasher: hasher,
         generator: next,
-    }
+    })
 }
 
 // A line.
-fn case(line: &[u8], held: Held, out: &mut [u8; ROOM]) -> Held {
+fn case(rt: &impl Print, line: &[u8], held: Held, out: &mut [u8; ROOM]) -> io::Result<Held> {
     let mut bytes = [0u8; MOST];
     let fields = after(line, 3);
     let n = decode(fields, &mut bytes);
     let left = after(after(fields, n), n);
     if !is_case(line, n, left) {
-        lines::not_understood(line);
-        return held;
+        lines::not_understood(rt, line)?;
+        return Ok(held);
     }
-    lines::title(after(left, 1));
-    let next = called(at(line, 0), at(line, 1), front(&bytes, n), held, out);
-    lines::end(left);
-    next
+    lines::title(rt, after(left, 1))?;
+    let next = called(rt, at(line, 0), at(line, 1), front(&bytes, n), held, out)?;
+    lines::end(rt, left)?;
+    Ok(next)
 }
 
 // All lines, each on what the ones before it left.
-fn run(input: &[u8], out: &mut [u8; ROOM]) {
+fn run(rt: &impl Print, input: &[u8], out: &mut [u8; ROOM]) -> io::Result<()> {
     if input.len() >= ROOM {
-        lines::not_understood(b"an input that long");
-        return;
+        return lines::not_understood(rt, b"an input that long");
     }
     let mut held = Held {
         hasher: Hasher::new(),
@@ -135,15 +142,16 @@ fn run(input: &[u8], out: &mut [u8; ROOM]) {
     while start < input.len() {
         let n = line_length(&input[start..]);
         let end = start + n;
-        let next = case(&input[start..end], held, out);
+        let next = case(rt, &input[start..end], held, out)?;
         held = next;
         start = end + 1;
     }
+    Ok(())
 }
 
-fn main() {
+fn main(rt: HostRuntime) -> io::Result<()> {
     let mut input = space();
     let mut out = space();
-    let n = io::read_full(STDIN_FILENO, &mut input);
-    run(&input[..n], &mut out);
+    let n = read_full(&mut rt.stdin(), &mut input)?;
+    run(&rt, &input[..n], &mut out)
 }

@@ -1,5 +1,8 @@
 // Parts of buffers. What asks for more than there is gets what there is, so that callers have nothing to show.
-ghost use Rattle.std.specs.Prelude.{◌≡◌, ◌≤◌, length};
+ghost use Rattle.std.specs.Prelude.{◌≡◌, ◌≤◌, length, IfOk};
+
+use std::io;
+use std::io::Read;
 
 // One byte more than the most of one call, and more than the input has.
 pub(crate) const ROOM: usize = 1048577;
@@ -47,4 +50,19 @@ pub(crate) fn line_length(s: &[u8]) -> usize
         i += 1;
     }
     i
+}
+
+// Reads until the buffer is full or the input ends. Returns how many bytes came, which stand at the front.
+pub(crate) fn read_full(input: &mut impl Read, buf: &mut [u8]) -> io::Result<usize>
+    ensures { IfOk result (λ n. n ≤ length buf.new) }
+{
+    let mut done = 0;
+    while done < buf.len() {
+        let n = input.read(&mut buf[done..])?;
+        if n == 0 {
+            break;
+        }
+        done += n;
+    }
+    Ok(done)
 }

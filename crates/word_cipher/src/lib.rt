@@ -1,5 +1,6 @@
 // AES-256 encryption (FIPS 197) by four tables of words: the cipher of `cipher` a second time, for speed.
 #![tactic(auto)]
+
 mod block;
 mod key;
 mod table;

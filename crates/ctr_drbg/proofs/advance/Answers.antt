@@ -1,5 +1,4 @@
 use Rattle.ctr_drbg.proofs.Effects.{advanced-is}
-use borrow.Author.Rules.{rules}
 use Rattle.ctr_drbg.proofs.advance.Goals as goal
 
 pub returns : goal.returns

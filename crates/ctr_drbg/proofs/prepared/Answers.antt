@@ -1,6 +1,5 @@
 use borrow.Author.Tests.{eq-eqb, ne_eqb}
 use Rattle.ctr_drbg.specs.Algorithms.{prepared_by}
-use borrow.Author.Rules.{rules}
 use Rattle.ctr_drbg.proofs.prepared.Goals as goal
 
 pub returns-then-m-eq0 : goal.returns-then-m-eq0

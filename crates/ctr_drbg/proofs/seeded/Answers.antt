@@ -1,5 +1,4 @@
 use Rattle.ctr_drbg.proofs.Effects.{seeded-is}
-use borrow.Author.Rules.{rules}
 use Rattle.ctr_drbg.proofs.seeded.Goals as goal
 
 pub returns : goal.returns

@@ -1,5 +1,4 @@
 use Rattle.health.specs.Calls.{fresh, failed_at}
-use borrow.Author.Rules.{rules}
 use Rattle.health.proofs.failed.Goals as goal
 
 pub returns : goal.returns

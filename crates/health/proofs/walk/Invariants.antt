@@ -1,13 +1,9 @@
-use Rattle.health.proofs.Checks.{bounds}
-use Rattle.health.proofs.Walks.{first-fails, second-fails, goes_on, walk_end, returns-failed, returns-passed}
-use mathlib.Core.Path.{◌≡◌, refl, sym, ◌∙◌}
+use mathlib.Core.Path.{◌≡◌}
 use mathlib.Core.Bool.{false}
 use Prim.Native.Nat.{◌≤◌, ◌-◌}
-use native.Mathlib.Omega.{arith}
 use lib.ListN.{length, drop}
 use Rattle.health.specs.Samples.{test_from}
 use Rattle.health.specs.Calls.{malformed}
-use borrow.Author.Rules.{rules}
 use Rattle.health.proofs.walk.Given as goal
 
 abbrev pub invariant-loop-i : goal.invariant-loop-i

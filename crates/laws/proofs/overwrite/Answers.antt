@@ -1,8 +1,6 @@
 use mathlib.Core.Logic.{⊎_elim}
-use Prim.Native.Nat.{◌-◌, ◌≤◌}
 use native.Mathlib.Omega.{arith}
-use borrow.Author.Rules.{rules}
-use Rattle.laws.proofs.Copy.{Copied, copied_none, copied_more, copied_all, copied-cut}
+use Rattle.laws.proofs.Copy.{copied_none, copied_more, copied_all, copied-cut}
 use Rattle.laws.proofs.overwrite.Goals as goal
 
 pub loop-i-init : goal.loop-i-init

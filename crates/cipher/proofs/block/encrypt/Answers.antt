@@ -1,4 +1,3 @@
-use borrow.Author.Rules.{rules}
 use Rattle.cipher.specs.Aes.{cipher}
 use Rattle.cipher.proofs.block.encrypt.Goals as goal
 

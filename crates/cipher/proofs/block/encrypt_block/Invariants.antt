@@ -1,9 +1,6 @@
-use Prim.Native.Nat.{ℕ, suc, ◌+◌, ◌-◌, ◌≤◌}
-use mathlib.Core.Path.{◌≡◌, refl}
-use mathlib.Core.List.{List}
-use native.Mathlib.Omega.{arith}
-use borrow.Author.Rules.{rules}
-use Rattle.cipher.specs.Aes.{round, rounds, cipher_with}
+use Prim.Native.Nat.{◌-◌, ◌≤◌}
+use mathlib.Core.Path.{◌≡◌}
+use Rattle.cipher.specs.Aes.{rounds}
 use Rattle.cipher.proofs.block.encrypt_block.Given as goal
 
 abbrev pub invariant-loop-n : goal.invariant-loop-n

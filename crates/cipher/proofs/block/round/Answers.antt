@@ -1,4 +1,3 @@
-use borrow.Author.Rules.{rules}
 use Rattle.cipher.specs.Aes.{round}
 use Rattle.cipher.proofs.block.round.Goals as goal
 

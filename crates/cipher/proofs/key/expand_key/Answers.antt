@@ -1,9 +1,8 @@
-use Prim.Native.Nat.{◌-◌}
 use mathlib.Core.Path.{◌≡◌, refl, ap, ◌∙◌}
 use lib.ListN.{length, take, replicate}
 use borrow.Author.Rules.{rules}
 use Rattle.cipher.specs.Aes.{key_expansion}
-use Rattle.cipher.proofs.ScheduleLaws.{Expanded, expanded-none, key-first, expanded-more, expanded-all}
+use Rattle.cipher.proofs.ScheduleLaws.{expanded-none, key-first, expanded-more, expanded-all}
 use Rattle.cipher.proofs.key.expand_key.Goals as goal
 
 pub loop-i-init : goal.loop-i-init

@@ -1,9 +1,6 @@
 use Prim.Native.Nat.{◌-◌}
-use mathlib.Core.Path.{◌≡◌, refl, ap, ◌∙◌}
-use lib.ListN.{length, take, replicate}
-use borrow.Author.Rules.{rules}
-use Rattle.cipher.specs.Aes.{key_expansion}
-use Rattle.cipher.proofs.ScheduleLaws.{Expanded, expanded-none, key-first, expanded-more, expanded-all}
+use lib.ListN.{take}
+use Rattle.cipher.proofs.ScheduleLaws.{Expanded}
 use Rattle.cipher.proofs.key.expand_key.Given as goal
 
 abbrev pub invariant-loop-i : goal.invariant-loop-i

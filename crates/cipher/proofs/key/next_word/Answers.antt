@@ -1,5 +1,4 @@
 use mathlib.Core.Path.{ap, ap₂, ◌∙◌}
-use borrow.Author.Rules.{rules}
 use Rattle.cipher.specs.Aes.{xor_word, temp, next_word}
 use Rattle.cipher.proofs.key.next_word.Goals as goal
 

@@ -1,4 +1,3 @@
-use borrow.Author.Rules.{rules}
 use Rattle.cipher.proofs.key.sub_word.Goals as goal
 
 pub returns : goal.returns

@@ -1,10 +1,8 @@
-use Prim.Native.Nat.{◌+◌, ◌*◌, ◌-◌}
 use mathlib.Core.Path.{refl}
 use lib.ListN.{replicate}
 use borrow.Author.Rules.{rules}
-use Rattle.laws.proofs.Tabulate.{Filled, filled_none, filled_more, filled-all}
-use Rattle.cipher.specs.Field.{◌⊕◌}
-use Rattle.cipher.specs.Aes.{at, add_round_key}
+use Rattle.laws.proofs.Tabulate.{filled_none, filled_more, filled-all}
+use Rattle.cipher.specs.Aes.{add_round_key}
 use Rattle.cipher.proofs.state.add_round_key.Goals as goal
 
 pub loop-i-init : goal.loop-i-init

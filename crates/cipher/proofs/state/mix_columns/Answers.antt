@@ -1,7 +1,6 @@
 use Prim.Native.Nat.{ℕ}
 use mathlib.Core.Path.{◌≡◌, refl}
 use mathlib.Core.List.{List, [], ◌∷◌}
-use borrow.Author.Rules.{rules}
 use Rattle.laws.specs.Lists.{tabulate}
 use Rattle.cipher.specs.Aes.{at, word_at, mixed_byte, mix_columns}
 use Rattle.cipher.proofs.state.mix_columns.Goals as goal

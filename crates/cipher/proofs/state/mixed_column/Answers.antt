@@ -2,7 +2,6 @@ use Prim.Native.Nat.{ℕ}
 use mathlib.Core.Path.{◌≡◌, refl, ap, ◌∙◌}
 use mathlib.Core.List.{[], ◌∷◌}
 use lib.Bits.{xor_zero_r, xor_comm}
-use borrow.Author.Rules.{rules}
 use Rattle.laws.specs.Lists.{tabulate}
 use Rattle.cipher.specs.Field.{◌⊕◌, xtime, multiply, product}
 use Rattle.cipher.specs.Aes.{mixed_byte}

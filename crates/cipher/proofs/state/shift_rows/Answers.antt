@@ -1,9 +1,8 @@
-use Prim.Native.Nat.{◌+◌, ◌*◌, ◌%◌, ◌-◌}
 use mathlib.Core.Path.{refl}
 use lib.ListN.{replicate}
 use borrow.Author.Rules.{rules}
-use Rattle.laws.proofs.Tabulate.{Filled, filled_none, filled_more, filled-all}
-use Rattle.cipher.specs.Aes.{at, shift_rows}
+use Rattle.laws.proofs.Tabulate.{filled_none, filled_more, filled-all}
+use Rattle.cipher.specs.Aes.{shift_rows}
 use Rattle.cipher.proofs.state.shift_rows.Goals as goal
 
 pub loop-i-init : goal.loop-i-init

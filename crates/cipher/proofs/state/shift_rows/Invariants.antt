@@ -1,9 +1,6 @@
 use Prim.Native.Nat.{◌+◌, ◌*◌, ◌%◌, ◌-◌}
-use mathlib.Core.Path.{refl}
-use lib.ListN.{replicate}
-use borrow.Author.Rules.{rules}
-use Rattle.laws.proofs.Tabulate.{Filled, filled_none, filled_more, filled-all}
-use Rattle.cipher.specs.Aes.{at, shift_rows}
+use Rattle.laws.proofs.Tabulate.{Filled}
+use Rattle.cipher.specs.Aes.{at}
 use Rattle.cipher.proofs.state.shift_rows.Given as goal
 
 abbrev pub invariant-loop-i : goal.invariant-loop-i

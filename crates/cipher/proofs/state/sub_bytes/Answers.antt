@@ -1,10 +1,8 @@
-use Prim.Native.Nat.{◌-◌}
 use mathlib.Core.Path.{refl}
 use lib.ListN.{replicate}
 use borrow.Author.Rules.{rules}
-use Rattle.laws.proofs.Tabulate.{Filled, filled_none, filled_more, filled-all}
-use Rattle.cipher.specs.Field.{sub_byte}
-use Rattle.cipher.specs.Aes.{at, sub_bytes}
+use Rattle.laws.proofs.Tabulate.{filled_none, filled_more, filled-all}
+use Rattle.cipher.specs.Aes.{sub_bytes}
 use Rattle.cipher.proofs.state.sub_bytes.Goals as goal
 
 pub loop-i-init : goal.loop-i-init

@@ -1,10 +1,7 @@
 use Prim.Native.Nat.{◌-◌}
-use mathlib.Core.Path.{refl}
-use lib.ListN.{replicate}
-use borrow.Author.Rules.{rules}
-use Rattle.laws.proofs.Tabulate.{Filled, filled_none, filled_more, filled-all}
+use Rattle.laws.proofs.Tabulate.{Filled}
 use Rattle.cipher.specs.Field.{sub_byte}
-use Rattle.cipher.specs.Aes.{at, sub_bytes}
+use Rattle.cipher.specs.Aes.{at}
 use Rattle.cipher.proofs.state.sub_bytes.Given as goal
 
 abbrev pub invariant-loop-i : goal.invariant-loop-i

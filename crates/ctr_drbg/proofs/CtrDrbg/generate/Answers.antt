@@ -2,7 +2,6 @@ use mathlib.Core.Path.{◌∙◌}
 use Rattle.laws.proofs.Refusals.{accepted, guarded-done, guarded-refused}
 use Rattle.ctr_drbg.specs.Operations.{generate_answer, generated, generate_buffer}
 use Rattle.ctr_drbg.proofs.Accepted.{generate-fits}
-use borrow.Author.Rules.{rules}
 use Rattle.ctr_drbg.proofs.CtrDrbg.generate.Goals as goal
 
 pub served-next-requires : goal.served-next-requires

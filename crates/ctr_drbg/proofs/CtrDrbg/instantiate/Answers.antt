@@ -3,7 +3,6 @@ use Rattle.laws.proofs.Refusals.{accepted, guarded-done, guarded-refused}
 use Rattle.ctr_drbg.specs.Algorithms.{instantiate, zero_working}
 use Rattle.ctr_drbg.specs.Operations.{instantiate_answer, instantiated}
 use Rattle.ctr_drbg.proofs.Accepted.{instantiate-fits}
-use borrow.Author.Rules.{rules}
 use Rattle.ctr_drbg.proofs.CtrDrbg.instantiate.Goals as goal
 
 pub seeded-next-requires : goal.seeded-next-requires

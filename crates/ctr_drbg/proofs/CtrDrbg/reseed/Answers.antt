@@ -3,7 +3,6 @@ use Rattle.laws.proofs.Refusals.{accepted, guarded-done, guarded-refused}
 use Rattle.ctr_drbg.specs.Algorithms.{reseed, working}
 use Rattle.ctr_drbg.specs.Operations.{reseed_answer, reseeded}
 use Rattle.ctr_drbg.proofs.Accepted.{reseed-fits}
-use borrow.Author.Rules.{rules}
 use Rattle.ctr_drbg.proofs.CtrDrbg.reseed.Goals as goal
 
 pub seeded-next-requires : goal.seeded-next-requires

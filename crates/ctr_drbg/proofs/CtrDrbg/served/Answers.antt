@@ -2,7 +2,6 @@ use native.Mathlib.Omega.{arith}
 use Rattle.ctr_drbg.specs.Algorithms.{working}
 use Rattle.ctr_drbg.specs.Refusals.{reseed_interval}
 use Rattle.ctr_drbg.proofs.Effects.{served-is}
-use borrow.Author.Rules.{rules}
 use Rattle.ctr_drbg.proofs.CtrDrbg.served.Goals as goal
 
 pub overflow_add-self : goal.overflow_add-self

@@ -1,14 +1,8 @@
-use mathlib.Core.Path.{◌≡◌, refl, ◌∙◌}
-use Prim.Native.Nat.{ℕ, ◌+◌, ◌*◌, ◌-◌, ◌/◌, ◌%◌, ◌^◌, ◌≤◌, ◌<◌}
-use native.Mathlib.Nat.{pow-suc}
-use native.Mathlib.Numerals.{add-one}
-use native.Mathlib.Omega.{arith}
-use lib.ListN.{length, get_or, set, length-set}
-use Rattle.laws.proofs.Lists.{byte-lt, set_below}
+use mathlib.Core.Path.{◌≡◌}
+use Prim.Native.Nat.{◌+◌, ◌*◌, ◌-◌, ◌^◌, ◌≤◌}
+use lib.ListN.{length}
 use Rattle.cipher.specs.Aes.{Bytes}
 use Rattle.ctr_drbg.specs.Counter.{octets_to_integer}
-use Rattle.ctr_drbg.proofs.Digits.{integer-set, carry-on, incremented}
-use borrow.Author.Rules.{rules}
 use Rattle.ctr_drbg.proofs.counter.increment.Given as goal
 
 -- the last k bytes are stepped, and what is carried stands before them

@@ -1,10 +1,10 @@
 use mathlib.Core.Path.{◌≡◌, refl, ◌∙◌}
 use mathlib.Core.List.{List}
-use Prim.Native.Nat.{suc, ◌+◌, ◌-◌, ◌/◌, ◌%◌, ◌≤◌}
+use Prim.Native.Nat.{suc, ◌+◌, ◌-◌, ◌/◌, ◌≤◌}
 use native.Mathlib.Omega.{arith}
 use lib.ListN.{length, take, drop, length-take, length-drop}
 use Rattle.laws.specs.Blocks.{block_count}
-use Rattle.laws.proofs.Parts.{over, over_none, over-full, part_filled}
+use Rattle.laws.proofs.Parts.{over_none, over-full, part_filled}
 use Rattle.word_cipher.specs.Cipher.{word_cipher}
 use Rattle.word_cipher.proofs.Laws.{length-word-cipher, overwrite-block}
 use Rattle.ctr_drbg.specs.Closed.{after, enciphered}

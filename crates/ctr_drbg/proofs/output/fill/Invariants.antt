@@ -1,15 +1,9 @@
-use mathlib.Core.Path.{◌≡◌, refl, ◌∙◌}
-use mathlib.Core.List.{List}
-use Prim.Native.Nat.{suc, ◌+◌, ◌-◌, ◌/◌, ◌%◌, ◌≤◌}
-use native.Mathlib.Omega.{arith}
-use lib.ListN.{length, take, drop, length-take, length-drop}
-use Rattle.laws.specs.Blocks.{block_count}
-use Rattle.laws.proofs.Parts.{over, over_none, over-full, part_filled}
+use mathlib.Core.Path.{◌≡◌}
+use Prim.Native.Nat.{◌+◌, ◌-◌, ◌/◌, ◌%◌, ◌≤◌}
+use lib.ListN.{length}
+use Rattle.laws.proofs.Parts.{over}
 use Rattle.word_cipher.specs.Cipher.{word_cipher}
-use Rattle.word_cipher.proofs.Laws.{length-word-cipher, overwrite-block}
 use Rattle.ctr_drbg.specs.Closed.{after, enciphered}
-use Rattle.ctr_drbg.proofs.Steps.{increment-after, enciphered-more, enciphered-none, length-enciphered}
-use borrow.Author.Rules.{rules}
 use Rattle.ctr_drbg.proofs.output.fill.Given as goal
 
 -- the blocks before `at` are laid over the buffer

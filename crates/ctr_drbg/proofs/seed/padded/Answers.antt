@@ -1,5 +1,4 @@
 use Rattle.ctr_drbg.proofs.Effects.{padded-is}
-use borrow.Author.Rules.{rules}
 use Rattle.ctr_drbg.proofs.seed.padded.Goals as goal
 
 pub returns : goal.returns

@@ -1,8 +1,6 @@
-use Prim.Native.Nat.{◌-◌}
 use mathlib.Core.Path.{refl}
-use lib.Bits.{bit_xor}
-use lib.ListN.{get_or, replicate}
-use Rattle.laws.proofs.Tabulate.{Filled, filled_none, filled_more, filled-all}
+use lib.ListN.{replicate}
+use Rattle.laws.proofs.Tabulate.{filled_none, filled_more, filled-all}
 use Rattle.ctr_drbg.specs.Algorithms.{seed_length, xored}
 use borrow.Author.Rules.{rules}
 use Rattle.ctr_drbg.proofs.seed.xored.Goals as goal

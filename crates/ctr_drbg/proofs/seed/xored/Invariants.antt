@@ -1,10 +1,7 @@
 use Prim.Native.Nat.{◌-◌}
-use mathlib.Core.Path.{refl}
 use lib.Bits.{bit_xor}
-use lib.ListN.{get_or, replicate}
-use Rattle.laws.proofs.Tabulate.{Filled, filled_none, filled_more, filled-all}
-use Rattle.ctr_drbg.specs.Algorithms.{seed_length, xored}
-use borrow.Author.Rules.{rules}
+use lib.ListN.{get_or}
+use Rattle.laws.proofs.Tabulate.{Filled}
 use Rattle.ctr_drbg.proofs.seed.xored.Given as goal
 
 abbrev pub invariant-loop-i : goal.invariant-loop-i

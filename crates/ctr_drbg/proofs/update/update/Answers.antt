@@ -1,5 +1,4 @@
 use Rattle.ctr_drbg.proofs.Effects.{update-alone}
-use borrow.Author.Rules.{rules}
 use Rattle.ctr_drbg.proofs.update.update.Goals as goal
 
 pub returns : goal.returns

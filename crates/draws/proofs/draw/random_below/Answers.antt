@@ -3,7 +3,6 @@ use Rattle.pools.specs.Calls.{draw}
 use Rattle.pools.proofs.Outcomes.{is-accepted}
 use Rattle.pools.proofs.Passing.{draw-passing, draw-range}
 use Rattle.draws.proofs.Answers.{draw-done, draw-kept}
-use borrow.Author.Rules.{rules}
 use Rattle.draws.proofs.draw.random_below.Goals as goal
 
 pub make_tries-requires : goal.make_tries-requires

@@ -1,9 +1,5 @@
-use Prim.Native.Nat.{◌-◌}
 use native.Mathlib.Omega.{arith}
-use lib.ListN.{length}
-use borrow.Author.Tests.{ltb-true, ltb-false}
-use Rattle.laws.proofs.Copy.{Copied, copied_none, copied_more, copied_all, copied-cut}
-use borrow.Author.Rules.{rules}
+use Rattle.laws.proofs.Copy.{copied_none, copied_more, copied_all, copied-cut}
 use Rattle.draws.proofs.lists.overwrite.Goals as goal
 
 pub loop-i-init : goal.loop-i-init

@@ -1,9 +1,6 @@
 use Prim.Native.Nat.{◌-◌}
-use native.Mathlib.Omega.{arith}
 use lib.ListN.{length}
-use borrow.Author.Tests.{ltb-true, ltb-false}
-use Rattle.laws.proofs.Copy.{Copied, copied_none, copied_more, copied_all, copied-cut}
-use borrow.Author.Rules.{rules}
+use Rattle.laws.proofs.Copy.{Copied}
 use Rattle.draws.proofs.lists.overwrite.Given as goal
 
 abbrev pub invariant-loop-i : goal.invariant-loop-i

@@ -1,12 +1,9 @@
 use mathlib.Core.Logic.{⊎_elim}
-use lib.ListN.{length}
-use borrow.Author.Tests.{ltb-true, ltb-false}
 use Rattle.pools.specs.Refusals.{max_list}
 use Rattle.pools.specs.Calls.{shuffle}
 use Rattle.pools.proofs.Outcomes.{is-accepted}
 use Rattle.pools.proofs.Passing.{shuffle-passing, shuffle-range}
 use Rattle.draws.proofs.Answers.{shuffle-done, shuffle-short, shuffle-kept}
-use borrow.Author.Rules.{rules}
 use Rattle.draws.proofs.shuffles.shuffle.Goals as goal
 
 pub shuffle_list-requires : goal.shuffle_list-requires

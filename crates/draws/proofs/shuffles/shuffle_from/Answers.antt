@@ -1,5 +1,5 @@
 use mathlib.Core.Path.{◌≡◌}
-use Prim.Native.Nat.{◌-◌, ◌*◌, ◌≤◌}
+use Prim.Native.Nat.{◌*◌}
 use native.Mathlib.Omega.{arith}
 use lib.ListN.{length}
 use borrow.Author.Tests.{not-true, not-false}
@@ -9,8 +9,7 @@ use Rattle.pools.specs.Draws.{shuffle_from, try_at}
 use Rattle.pools.specs.Promises.{number}
 use Rattle.pools.proofs.Checks.{mapped-long}
 use Rattle.pools.proofs.Passing.{passing-fewer}
-use Rattle.draws.proofs.Trying.{Ready}
-use Rattle.draws.proofs.Shuffling.{LeftList, left-whole, place-missed, place-drawn, place-next, place-last, ready-below}
+use Rattle.draws.proofs.Shuffling.{left-whole, place-missed, place-drawn, place-next, place-last, ready-below}
 use borrow.Author.Rules.{rules}
 use mathlib.Core.Path.{ap}
 use mathlib.Core.Bool.{not}

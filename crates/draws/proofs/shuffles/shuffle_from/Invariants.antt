@@ -1,17 +1,8 @@
-use mathlib.Core.Path.{◌≡◌}
 use Prim.Native.Nat.{◌-◌, ◌*◌, ◌≤◌}
-use native.Mathlib.Omega.{arith}
-use lib.ListN.{length}
-use borrow.Author.Tests.{not-true, not-false}
-use Rattle.pools.specs.Events.{pool_count}
 use Rattle.pools.specs.Refusals.{max_tries}
 use Rattle.pools.specs.Draws.{shuffle_from, try_at}
-use Rattle.pools.specs.Promises.{number}
-use Rattle.pools.proofs.Checks.{mapped-long}
-use Rattle.pools.proofs.Passing.{passing-fewer}
 use Rattle.draws.proofs.Trying.{Ready}
-use Rattle.draws.proofs.Shuffling.{LeftList, left-whole, place-missed, place-drawn, place-next, place-last, ready-below}
-use borrow.Author.Rules.{rules}
+use Rattle.draws.proofs.Shuffling.{LeftList}
 use Rattle.draws.proofs.shuffles.shuffle_from.Given as goal
 
 abbrev pub invariant-loop-p : goal.invariant-loop-p

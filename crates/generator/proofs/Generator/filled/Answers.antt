@@ -5,7 +5,6 @@ use Rattle.laws.specs.Blocks.{block_count}
 use Rattle.generator.specs.Counter.{little_endian}
 use Rattle.generator.specs.Steps.{decode}
 use Rattle.generator.proofs.Effects.{blocks-next, blocks-bytes}
-use borrow.Author.Rules.{rules}
 use Rattle.generator.proofs.Generator.filled.Goals as goal
 
 pub fill_both-after-requires : goal.fill_both-after-requires

@@ -3,7 +3,6 @@ use Rattle.laws.proofs.Refusals.{accepted, guarded-done, guarded-refused}
 use Rattle.generator.specs.Refusals.{blocks_number}
 use Rattle.generator.specs.Operations.{blocks_answer, blocks_made, blocks_buffer}
 use Rattle.generator.proofs.Accepted.{blocks-fit}
-use borrow.Author.Rules.{rules}
 use Rattle.generator.proofs.Generator.generate_blocks.Goals as goal
 
 pub filled-next-requires : goal.filled-next-requires

@@ -2,7 +2,6 @@ use mathlib.Core.Path.{ap}
 use mathlib.Core.Bool.{not}
 use Rattle.generator.specs.Steps.{decode}
 use Rattle.generator.specs.Refusals.{malformed, unseeded}
-use borrow.Author.Rules.{rules}
 use Rattle.generator.proofs.Generator.is_malformed.Goals as goal
 
 pub returns-then-is_unseeded : goal.returns-then-is_unseeded

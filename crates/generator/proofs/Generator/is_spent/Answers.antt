@@ -1,6 +1,5 @@
 use Rattle.generator.specs.Steps.{decode}
 use Rattle.generator.specs.Refusals.{spent}
-use borrow.Author.Rules.{rules}
 use Rattle.generator.proofs.Generator.is_spent.Goals as goal
 
 pub returns : goal.returns

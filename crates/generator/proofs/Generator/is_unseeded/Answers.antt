@@ -2,7 +2,6 @@ use mathlib.Core.Path.{◌∙◌}
 use Rattle.generator.specs.Steps.{decode}
 use Rattle.generator.specs.Refusals.{unseeded}
 use Rattle.generator.proofs.Digits.{all_zero-value}
-use borrow.Author.Rules.{rules}
 use Rattle.generator.proofs.Generator.is_unseeded.Goals as goal
 
 pub returns : goal.returns

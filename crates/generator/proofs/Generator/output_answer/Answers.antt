@@ -3,7 +3,6 @@ use borrow.Author.Tests.{lt-ltb, le-ltb}
 use Rattle.generator.specs.Refusals.{output_number}
 use Rattle.generator.specs.Operations.{number}
 use Rattle.generator.proofs.Laws.{few-blocks}
-use borrow.Author.Rules.{rules}
 use Rattle.generator.proofs.Generator.output_answer.Goals as goal
 
 pub returns-then-n-max_request : goal.returns-then-n-max_request

@@ -1,6 +1,5 @@
 use Rattle.generator.specs.Refusals.{state_number}
 use Rattle.generator.specs.Operations.{number}
-use borrow.Author.Rules.{rules}
 use Rattle.generator.proofs.Generator.output_state_answer.Goals as goal
 
 pub returns-then-is_malformed : goal.returns-then-is_malformed

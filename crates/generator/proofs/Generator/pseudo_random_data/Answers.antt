@@ -3,7 +3,6 @@ use Rattle.laws.proofs.Refusals.{accepted, guarded-done, guarded-refused}
 use Rattle.generator.specs.Refusals.{request_number}
 use Rattle.generator.specs.Operations.{request_answer, requested, request_buffer}
 use Rattle.generator.proofs.Accepted.{output-fits}
-use borrow.Author.Rules.{rules}
 use Rattle.generator.proofs.Generator.pseudo_random_data.Goals as goal
 
 pub served-next-requires : goal.served-next-requires

@@ -2,7 +2,6 @@ use mathlib.Core.Path.{◌∙◌}
 use Rattle.laws.proofs.Refusals.{accepted, guarded-done, guarded-refused}
 use Rattle.generator.specs.Operations.{reseed_answer, reseeded}
 use Rattle.generator.proofs.Accepted.{reseed-fits}
-use borrow.Author.Rules.{rules}
 use Rattle.generator.proofs.Generator.reseed.Goals as goal
 
 pub mixed-next-requires : goal.mixed-next-requires

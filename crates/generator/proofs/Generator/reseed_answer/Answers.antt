@@ -3,7 +3,6 @@ use lib.Dec.{lit≤}
 use Rattle.generator.specs.Refusals.{max_seed, reseed_number}
 use Rattle.generator.specs.Operations.{number}
 use Rattle.generator.proofs.Seeds.{long, short}
-use borrow.Author.Rules.{rules}
 use Rattle.generator.proofs.Generator.reseed_answer.Goals as goal
 
 pub overflow_sub-max_d_message : goal.overflow_sub-max_d_message

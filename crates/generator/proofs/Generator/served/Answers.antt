@@ -3,7 +3,6 @@ use lib.ListN.{length}
 use Rattle.laws.specs.Blocks.{block_count}
 use Rattle.generator.specs.Steps.{decode}
 use Rattle.generator.proofs.Effects.{request-next, request-bytes}
-use borrow.Author.Rules.{rules}
 use Rattle.generator.proofs.Generator.served.Goals as goal
 
 pub fill_both-after-requires : goal.fill_both-after-requires

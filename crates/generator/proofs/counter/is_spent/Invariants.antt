@@ -1,14 +1,7 @@
-use mathlib.Core.Path.{◌≡◌, sym, ◌∙◌}
-use Prim.Native.Nat.{◌+◌, ◌*◌, ◌-◌, ◌/◌, ◌^◌, ◌≤◌}
-use native.Mathlib.Nat.{zero-add, pow-suc, div-div-eq-div-mul}
-use native.Mathlib.Numerals.{add-one}
-use native.Mathlib.Omega.{arith}
-use mir.Val.{Fits}
-use mir.Syntax.{w8}
-use lib.ListN.{length, get_or, drop, drop_of_length-le}
+use mathlib.Core.Path.{◌≡◌}
+use Prim.Native.Nat.{◌+◌, ◌-◌, ◌/◌, ◌^◌, ◌≤◌}
+use lib.ListN.{drop}
 use Rattle.generator.specs.Counter.{value}
-use Rattle.generator.proofs.Digits.{value-drop, carry-some}
-use borrow.Author.Rules.{rules}
 use Rattle.generator.proofs.counter.is_spent.Given as goal
 
 abbrev pub invariant-loop-i : goal.invariant-loop-i

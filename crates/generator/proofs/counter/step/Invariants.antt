@@ -1,12 +1,8 @@
-use mathlib.Core.Path.{◌≡◌, refl, sym, ap, ◌∙◌}
-use Prim.Native.Nat.{◌+◌, ◌-◌, ◌^◌, ◌≤◌, ◌<◌}
-use native.Mathlib.Omega.{arith}
-use lib.ListN.{length, get_or, set, length-set}
-use Rattle.laws.proofs.Lists.{set_below}
-use Rattle.generator.specs.Counter.{value, little_endian}
+use mathlib.Core.Path.{◌≡◌}
+use Prim.Native.Nat.{◌+◌, ◌-◌, ◌^◌, ◌≤◌}
+use lib.ListN.{length}
+use Rattle.generator.specs.Counter.{value}
 use Rattle.cipher.specs.Aes.{Bytes}
-use Rattle.generator.proofs.Digits.{counter-value, value_set, little_endian-wraps, next-value, carry-on}
-use borrow.Author.Rules.{rules}
 use Rattle.generator.proofs.counter.step.Given as goal
 
 abbrev pub invariant-loop-i : goal.invariant-loop-i

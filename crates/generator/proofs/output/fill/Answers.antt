@@ -1,12 +1,12 @@
 use mathlib.Core.Path.{◌≡◌, refl, sym, ◌∙◌}
 use mathlib.Core.List.{List}
-use Prim.Native.Nat.{◌+◌, ◌-◌, ◌/◌, ◌%◌, ◌≤◌}
+use Prim.Native.Nat.{◌+◌, ◌-◌, ◌/◌, ◌≤◌}
 use native.Mathlib.Nat.{add-zero, add_assoc}
 use native.Mathlib.Numerals.{add-one}
 use native.Mathlib.Omega.{arith}
 use lib.ListN.{length, take, drop, length-take, length-drop}
 use Rattle.laws.specs.Blocks.{block_count}
-use Rattle.laws.proofs.Parts.{over, over_none, over-full, part_filled}
+use Rattle.laws.proofs.Parts.{over_none, over-full, part_filled}
 use Rattle.word_cipher.specs.Cipher.{word_cipher}
 use Rattle.word_cipher.proofs.Laws.{length-word-cipher, overwrite-block}
 use Rattle.generator.specs.Counter.{value, little_endian, max_counter, counter_block}

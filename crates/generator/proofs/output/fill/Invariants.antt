@@ -1,19 +1,10 @@
-use mathlib.Core.Path.{◌≡◌, refl, sym, ◌∙◌}
-use mathlib.Core.List.{List}
+use mathlib.Core.Path.{◌≡◌}
 use Prim.Native.Nat.{◌+◌, ◌-◌, ◌/◌, ◌%◌, ◌≤◌}
-use native.Mathlib.Nat.{add-zero, add_assoc}
-use native.Mathlib.Numerals.{add-one}
-use native.Mathlib.Omega.{arith}
-use lib.ListN.{length, take, drop, length-take, length-drop}
-use Rattle.laws.specs.Blocks.{block_count}
-use Rattle.laws.proofs.Parts.{over, over_none, over-full, part_filled}
+use lib.ListN.{length}
+use Rattle.laws.proofs.Parts.{over}
 use Rattle.word_cipher.specs.Cipher.{word_cipher}
-use Rattle.word_cipher.proofs.Laws.{length-word-cipher, overwrite-block}
-use Rattle.generator.specs.Counter.{value, little_endian, max_counter, counter_block}
+use Rattle.generator.specs.Counter.{value, little_endian}
 use Rattle.generator.specs.Closed.{counters, enciphered}
-use Rattle.generator.proofs.Digits.{counter-value, value-counter, sixteen}
-use Rattle.generator.proofs.Blocks.{enciphered-none, enciphered-more, length-enciphered}
-use borrow.Author.Rules.{rules}
 use Rattle.generator.proofs.output.fill.Given as goal
 
 -- the blocks before `at` are laid over the buffer

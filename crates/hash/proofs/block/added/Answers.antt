@@ -1,4 +1,3 @@
-use Rattle.std.proofs.Common.{rules}
 use Rattle.hash.proofs.block.added.Goals as goal
 
 pub returns : goal.returns

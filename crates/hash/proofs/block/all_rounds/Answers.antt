@@ -1,4 +1,4 @@
-use Rattle.std.proofs.Common.{◌≡◌, ◌-◌, ◌%◌, ◌≤◌, sym, refl, ◌∙◌, zero-add, arith, rules}
+use Rattle.std.proofs.Common.{◌≡◌, sym, refl, ◌∙◌, zero-add, arith}
 use Rattle.hash.specs.Prepared.{prepared_rounds}
 use Rattle.hash.proofs.Rounds.{rounds-add}
 use Rattle.hash.proofs.block.all_rounds.Goals as goal

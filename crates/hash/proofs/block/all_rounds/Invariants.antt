@@ -1,6 +1,5 @@
-use Rattle.std.proofs.Common.{◌≡◌, ◌-◌, ◌%◌, ◌≤◌, sym, refl, ◌∙◌, zero-add, arith, rules}
+use Rattle.std.proofs.Common.{◌≡◌, ◌-◌, ◌%◌, ◌≤◌}
 use Rattle.hash.specs.Prepared.{prepared_rounds}
-use Rattle.hash.proofs.Rounds.{rounds-add}
 use Rattle.hash.proofs.block.all_rounds.Given as goal
 
 abbrev pub invariant-loop-t : goal.invariant-loop-t

@@ -1,6 +1,5 @@
 use Rattle.hash.specs.Prepared.{prepared_compress}
 use Rattle.hash.proofs.Prepared.{by-prepared}
-use Rattle.std.proofs.Common.{rules}
 use Rattle.hash.proofs.block.compress.Goals as goal
 
 pub returns : goal.returns

@@ -1,4 +1,4 @@
-use Rattle.std.proofs.Common.{arith, rules}
+use Rattle.std.proofs.Common.{arith}
 use Rattle.hash.proofs.Rounds.{rounds-one, rounds-next}
 use Rattle.hash.proofs.block.eight_rounds.Goals as goal
 

@@ -1,4 +1,4 @@
-use Rattle.std.proofs.Common.{◌≡◌, ◌-◌, ◌≤◌, length, take, refl, arith, length-set, rules}
+use Rattle.std.proofs.Common.{◌≡◌, refl, arith, length-set, rules}
 use Rattle.hash.specs.Block.{schedule}
 use Rattle.hash.proofs.Schedule.{more-block}
 use Rattle.hash.proofs.block.loaded.Goals as goal

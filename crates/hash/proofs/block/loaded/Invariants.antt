@@ -1,6 +1,5 @@
-use Rattle.std.proofs.Common.{◌≡◌, ◌-◌, ◌≤◌, length, take, refl, arith, length-set, rules}
+use Rattle.std.proofs.Common.{◌≡◌, ◌-◌, ◌≤◌, length, take}
 use Rattle.hash.specs.Block.{schedule}
-use Rattle.hash.proofs.Schedule.{more-block}
 use Rattle.hash.proofs.block.loaded.Given as goal
 
 abbrev pub invariant-loop-t : goal.invariant-loop-t

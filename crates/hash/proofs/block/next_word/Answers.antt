@@ -1,5 +1,4 @@
 use Rattle.hash.specs.Block.{next_word}
-use Rattle.std.proofs.Common.{rules}
 use Rattle.hash.proofs.block.next_word.Goals as goal
 
 pub returns : goal.returns

@@ -1,6 +1,6 @@
-use Rattle.std.proofs.Common.{◌-◌, replicate, refl, arith, rules}
-use Rattle.laws.proofs.Tabulate.{Filled, filled_none, filled_more, filled-all}
-use Rattle.hash.specs.Prepared.{prepared_word, prepared}
+use Rattle.std.proofs.Common.{replicate, refl, arith}
+use Rattle.laws.proofs.Tabulate.{filled_none, filled_more, filled-all}
+use Rattle.hash.specs.Prepared.{prepared}
 use Rattle.hash.proofs.block.prepared.Goals as goal
 
 pub loop-t-init : goal.loop-t-init

@@ -1,6 +1,6 @@
-use Rattle.std.proofs.Common.{◌-◌, replicate, refl, arith, rules}
-use Rattle.laws.proofs.Tabulate.{Filled, filled_none, filled_more, filled-all}
-use Rattle.hash.specs.Prepared.{prepared_word, prepared}
+use Rattle.std.proofs.Common.{◌-◌}
+use Rattle.laws.proofs.Tabulate.{Filled}
+use Rattle.hash.specs.Prepared.{prepared_word}
 use Rattle.hash.proofs.block.prepared.Given as goal
 
 abbrev pub invariant-loop-t : goal.invariant-loop-t

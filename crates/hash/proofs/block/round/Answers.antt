@@ -1,7 +1,6 @@
 use Rattle.hash.specs.Block.{round}
 use Rattle.hash.specs.Prepared.{prepared_round}
 use Rattle.hash.proofs.Prepared.{takes-sum}
-use Rattle.std.proofs.Common.{rules}
 use Rattle.hash.proofs.block.round.Goals as goal
 
 pub returns : goal.returns

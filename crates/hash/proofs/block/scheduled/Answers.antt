@@ -1,5 +1,5 @@
-use Rattle.std.proofs.Common.{◌≡◌, ◌+◌, ◌-◌, ◌%◌, ◌≤◌, sym, refl, ◌∙◌, arith, take_all, rules}
-use Rattle.hash.proofs.Schedule.{Scheduled, scheduled-more}
+use Rattle.std.proofs.Common.{◌≡◌, ◌+◌, sym, refl, ◌∙◌, arith, take_all, rules}
+use Rattle.hash.proofs.Schedule.{scheduled-more}
 use Rattle.hash.proofs.block.scheduled.Goals as goal
 
 pub loop-t-init : goal.loop-t-init

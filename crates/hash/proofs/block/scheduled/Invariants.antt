@@ -1,5 +1,5 @@
-use Rattle.std.proofs.Common.{◌≡◌, ◌+◌, ◌-◌, ◌%◌, ◌≤◌, sym, refl, ◌∙◌, arith, take_all, rules}
-use Rattle.hash.proofs.Schedule.{Scheduled, scheduled-more}
+use Rattle.std.proofs.Common.{◌≡◌, ◌-◌, ◌%◌, ◌≤◌}
+use Rattle.hash.proofs.Schedule.{Scheduled}
 use Rattle.hash.proofs.block.scheduled.Given as goal
 
 abbrev pub invariant-loop-t : goal.invariant-loop-t

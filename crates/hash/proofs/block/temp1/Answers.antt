@@ -1,5 +1,4 @@
 use Rattle.hash.proofs.Prepared.{temp-sum}
-use Rattle.std.proofs.Common.{rules}
 use Rattle.hash.proofs.block.temp1.Goals as goal
 
 pub returns : goal.returns

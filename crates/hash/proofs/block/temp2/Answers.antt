@@ -1,5 +1,4 @@
 use Rattle.hash.specs.Block.{T₂}
-use Rattle.std.proofs.Common.{rules}
 use Rattle.hash.proofs.block.temp2.Goals as goal
 
 pub returns : goal.returns

@@ -1,5 +1,5 @@
-use Rattle.std.proofs.Common.{◌-◌, replicate, arith, rules}
-use Rattle.laws.proofs.Tabulate.{Filled, filled_none, filled_more, filled-all}
+use Rattle.std.proofs.Common.{replicate, arith, rules}
+use Rattle.laws.proofs.Tabulate.{filled_none, filled_more, filled-all}
 use Rattle.hash.specs.Sha256.{words_byte}
 use Rattle.hash.proofs.bytes.digest_bytes.Goals as goal
 

@@ -1,4 +1,4 @@
-use Rattle.std.proofs.Common.{ℕ, ◌-◌, ◌*◌, ◌/◌, ◌%◌, ◌^◌, ap, ◌∙◌, mul_comm, arith, rules}
+use Rattle.std.proofs.Common.{ℕ, ◌-◌, ◌*◌, ◌/◌, ◌%◌, ◌^◌, ap, ◌∙◌, mul_comm, arith}
 use Rattle.hash.proofs.Padding.{byte-mod}
 use Rattle.hash.proofs.bytes.length_byte.Goals as goal
 

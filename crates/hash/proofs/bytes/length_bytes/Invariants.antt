@@ -1,5 +1,5 @@
-use Rattle.std.proofs.Common.{◌-◌, ◌*◌, replicate, arith, rules}
-use Rattle.laws.proofs.Tabulate.{Filled, filled_none, filled_more, filled-all}
+use Rattle.std.proofs.Common.{◌-◌, ◌*◌}
+use Rattle.laws.proofs.Tabulate.{Filled}
 use Rattle.hash.specs.Padding.{length_byte}
 use Rattle.hash.proofs.bytes.length_bytes.Given as goal
 

@@ -1,4 +1,4 @@
-use Rattle.std.proofs.Common.{◌∙◌, zero-add, rules}
+use Rattle.std.proofs.Common.{◌∙◌, zero-add}
 use Rattle.hash.proofs.Absorb.{finish-empty}
 use Rattle.hash.proofs.Laws.{empty-length}
 use Rattle.hash.proofs.digest.digest_of.Goals as goal

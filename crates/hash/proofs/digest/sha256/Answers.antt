@@ -1,4 +1,4 @@
-use Rattle.std.proofs.Common.{◌≡◌, false, ltb, length, sym, ◌∙◌, add-zero, rules, ltb-false}
+use Rattle.std.proofs.Common.{◌≡◌, false, ltb, length, sym, ◌∙◌, add-zero, ltb-false}
 use Rattle.hash.specs.ShaD.{max_message}
 use Rattle.hash.proofs.Answers.{hash-refused, hash-accepted}
 use Rattle.hash.proofs.digest.sha256.Goals as goal

@@ -1,4 +1,4 @@
-use Rattle.std.proofs.Common.{append-nil, add-zero, rules}
+use Rattle.std.proofs.Common.{append-nil, add-zero}
 use Rattle.hash.proofs.digest.sha_d256.Goals as goal
 
 pub returns : goal.returns

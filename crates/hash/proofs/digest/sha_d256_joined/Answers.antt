@@ -1,4 +1,4 @@
-use Rattle.std.proofs.Common.{sym, ◌∙◌, rules, ltb-false}
+use Rattle.std.proofs.Common.{sym, ◌∙◌, ltb-false}
 use Rattle.hash.specs.ShaD.{max_message, max_d_message}
 use Rattle.hash.proofs.Answers.{hash-refused, hash-accepted}
 use Rattle.hash.proofs.digest.sha_d256_joined.Goals as goal

@@ -1,4 +1,4 @@
-use Rattle.std.proofs.Common.{◌∙◌, zero-add, arith, rules}
+use Rattle.std.proofs.Common.{◌∙◌, zero-add, arith}
 use Rattle.hash.proofs.Laws.{absorb-length, pool-empty-length, pool-digest-joined, d-message-fits, pool-holds}
 use Rattle.hash.proofs.digest.sha_d256_of.Goals as goal
 

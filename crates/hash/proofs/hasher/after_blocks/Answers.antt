@@ -1,4 +1,4 @@
-use Rattle.std.proofs.Common.{◌*◌, ◌/◌, length, rules}
+use Rattle.std.proofs.Common.{◌*◌, ◌/◌, length}
 use Rattle.laws.proofs.Copy.{part_end}
 use Rattle.hash.specs.Hasher.{absorb_from}
 use Rattle.hash.proofs.hasher.after_blocks.Goals as goal

@@ -1,7 +1,5 @@
-use Rattle.std.proofs.Common.{◌≡◌, ◌-◌, ◌/◌, ◌≤◌, length, drop, sym, ◌∙◌, arith, rules}
-use native.Mathlib.Nat.{sub-zero}
+use Rattle.std.proofs.Common.{◌≡◌, ◌-◌, ◌/◌, ◌≤◌, length, drop}
 use Rattle.hash.specs.Sha256.{blocks}
-use Rattle.hash.proofs.Message.{blocks-turn}
 use Rattle.hash.proofs.hasher.hash_blocks.Given as goal
 
 abbrev pub invariant-loop-at : goal.invariant-loop-at

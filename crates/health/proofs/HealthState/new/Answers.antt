@@ -1,6 +1,5 @@
 use mathlib.Core.Path.{refl}
 use Rattle.health.specs.Calls.{fresh}
-use borrow.Author.Rules.{rules}
 use Rattle.health.proofs.HealthState.new.Goals as goal
 
 pub returns : goal.returns

@@ -1,6 +1,5 @@
 use mathlib.Core.Path.{sym, ◌∙◌}
 use Rattle.health.proofs.Walks.{refused-first, refused-second, refused-state, not-refused}
-use borrow.Author.Rules.{rules}
 use Rattle.health.proofs.HealthState.test.Goals as goal
 
 pub returns-then-out_of_range : goal.returns-then-out_of_range
@@ -16,12 +15,11 @@ returns-then-is_malformed c =
     (sym c.is_malformed.ensures ∙ c.if-is_malformed.true)
 
 pub walk-requires : goal.walk-requires
-walk-requires c =
-    (
-      sym c.out_of_range.ensures ∙ c.if-out_of_range.false,
-      sym c.out_of_range-2.ensures ∙ c.if-out_of_range-2.false,
-      sym c.is_malformed.ensures ∙ c.if-is_malformed.false,
-    )
+walk-requires c = (
+  sym c.out_of_range.ensures ∙ c.if-out_of_range.false,
+  sym c.out_of_range-2.ensures ∙ c.if-out_of_range-2.false,
+  sym c.is_malformed.ensures ∙ c.if-is_malformed.false,
+)
 
 pub returns : goal.returns
 returns c =

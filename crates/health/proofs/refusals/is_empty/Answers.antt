@@ -1,6 +1,5 @@
 use native.Mathlib.Nat.{pos_of_ne-zero}
 use borrow.Author.Tests.{lt-ltb, eq-eqb, ne_eqb}
-use borrow.Author.Rules.{rules}
 use Rattle.health.proofs.refusals.is_empty.Goals as goal
 
 pub returns-then-seen-eq0 : goal.returns-then-seen-eq0

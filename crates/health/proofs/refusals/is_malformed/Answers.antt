@@ -1,6 +1,5 @@
 use mathlib.Core.Path.{sym, ◌∙◌}
 use Rattle.health.proofs.Checks.{long-run, large-count, beyond-seen, full-window, empty-window, stray-first, stray-last}
-use borrow.Author.Rules.{rules}
 use Rattle.health.proofs.refusals.is_malformed.Goals as goal
 
 pub returns-then-repetition-state : goal.returns-then-repetition-state

@@ -1,5 +1,4 @@
 use borrow.Author.Tests.{eq-eqb, ne_eqb}
-use borrow.Author.Rules.{rules}
 use Rattle.health.proofs.refusals.is_stray.Goals as goal
 
 pub returns-then-number-eq0 : goal.returns-then-number-eq0

@@ -1,7 +1,6 @@
 use borrow.Author.Tests.{lt-ltb, le-ltb}
 use Rattle.health.specs.Samples.{window_size}
 use Rattle.health.specs.Calls.{out_of_range}
-use borrow.Author.Rules.{rules}
 use Rattle.health.proofs.refusals.out_of_range.Goals as goal
 
 pub returns-then-cutoff-lt2 : goal.returns-then-cutoff-lt2

@@ -1,6 +1,5 @@
 use borrow.Author.Tests.{eq-eqb, ne_eqb}
 use Rattle.health.specs.Samples.{count_after}
-use borrow.Author.Rules.{rules}
 use Rattle.health.proofs.sample.count_after.Goals as goal
 
 pub returns-then-state-eq0 : goal.returns-then-state-eq0

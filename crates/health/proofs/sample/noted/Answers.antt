@@ -1,6 +1,5 @@
 use Rattle.health.proofs.Walks.{noted-full, noted_more}
 use native.Mathlib.Omega.{arith}
-use borrow.Author.Rules.{rules}
 use Rattle.health.proofs.sample.noted.Goals as goal
 
 pub returns-then-state-eq511 : goal.returns-then-state-eq511

@@ -1,6 +1,5 @@
 use borrow.Author.Tests.{eq-eqb, ne_eqb}
 use Rattle.health.specs.Samples.{run_after}
-use borrow.Author.Rules.{rules}
 use Rattle.health.proofs.sample.run_after.Goals as goal
 
 pub returns-then-sample-state : goal.returns-then-sample-state

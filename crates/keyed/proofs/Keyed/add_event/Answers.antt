@@ -4,7 +4,6 @@ use Rattle.keyed.specs.State.{pool_at, picked}
 use Rattle.keyed.specs.Calls.{event}
 use Rattle.keyed.proofs.Outcomes.{is-accepted, gives-done, gives-kept}
 use Rattle.keyed.proofs.Events.{input-small, event-number, event-effect}
-use borrow.Author.Rules.{rules}
 use Rattle.keyed.proofs.Keyed.add_event.Goals as goal
 
 pub bounds-self-place : goal.bounds-self-place

@@ -1,5 +1,4 @@
 use mathlib.Core.Path.{◌≡◌, sym, ◌∙◌}
-use mathlib.Core.Logic.{⊎_elim}
 use Prim.Native.Nat.{◌<◌}
 use native.Mathlib.Omega.{arith}
 use mir.Val.{Fits}
@@ -52,8 +51,8 @@ returns c =
     let j = c.if-reseeds in
     let g = c.gained_pool-next in
     elim j.branch [
-      then-reseeds w ↦
-        taken_is a.self a.source d ok a.place g.result placed g.ensures w.output_pool-out.result j.self w.output_pool-out.ensures (search rules)
-        (sym c.requires.1 ∙ w.if-reseeds.true)
-    | else-reseeds w ↦ kept-is a.self a.source d ok a.place g.result placed g.ensures j.self (search rules) (sym c.requires.1 ∙ w.if-reseeds.false)
+      | then-reseeds w ↦
+          taken_is a.self a.source d ok a.place g.result placed g.ensures w.output_pool-out.result j.self w.output_pool-out.ensures (search rules)
+          (sym c.requires.1 ∙ w.if-reseeds.true)
+      | else-reseeds w ↦ kept-is a.self a.source d ok a.place g.result placed g.ensures j.self (search rules) (sym c.requires.1 ∙ w.if-reseeds.false)
     ]

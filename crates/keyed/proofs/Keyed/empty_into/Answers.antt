@@ -1,7 +1,6 @@
 use Rattle.pools.specs.Collected.{nth}
 use Rattle.keyed.specs.State.{pool_at}
 use Rattle.keyed.proofs.Events.{emptied-is}
-use borrow.Author.Rules.{rules}
 use Rattle.keyed.proofs.Keyed.empty_into.Goals as goal
 
 pub returns : goal.returns

@@ -1,5 +1,4 @@
 use Rattle.keyed.specs.State.{malformed}
-use borrow.Author.Rules.{rules}
 use Rattle.keyed.proofs.Keyed.is_malformed.Goals as goal
 
 pub returns-then-any_malformed : goal.returns-then-any_malformed

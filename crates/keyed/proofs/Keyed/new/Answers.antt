@@ -1,6 +1,5 @@
 use Rattle.pools.specs.Events.{pool_count}
 use Rattle.keyed.specs.State.{fresh}
-use borrow.Author.Rules.{rules}
 use Rattle.keyed.proofs.Keyed.new.Goals as goal
 
 pub returns : goal.returns

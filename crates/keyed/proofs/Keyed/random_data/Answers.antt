@@ -1,7 +1,6 @@
 use Rattle.keyed.specs.Calls.{request, input_buffer}
 use Rattle.keyed.proofs.Outcomes.{is-accepted, gives-done, gives-kept}
 use Rattle.keyed.proofs.Requests.{request-servable, request-effect, request-number}
-use borrow.Author.Rules.{rules}
 use Rattle.keyed.proofs.Keyed.random_data.Goals as goal
 
 pub serve-next-requires : goal.serve-next-requires

@@ -1,5 +1,4 @@
 use Rattle.keyed.proofs.Requests.{serve_is}
-use borrow.Author.Rules.{rules}
 use Rattle.keyed.proofs.Keyed.serve.Goals as goal
 
 pub returns : goal.returns

@@ -1,7 +1,6 @@
 use Rattle.keyed.specs.Calls.{update, input_buffer}
 use Rattle.keyed.proofs.Outcomes.{is-accepted, gives-done, gives-kept}
 use Rattle.keyed.proofs.Requests.{update-servable, update-effect, update-number}
-use borrow.Author.Rules.{rules}
 use Rattle.keyed.proofs.Keyed.update_seed.Goals as goal
 
 pub serve-next-requires : goal.serve-next-requires

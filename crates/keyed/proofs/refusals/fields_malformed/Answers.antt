@@ -3,7 +3,6 @@ use borrow.Author.Tests.{eq-eqb, ne_eqb}
 use Rattle.generator.proofs.Laws.{unseeded-is}
 use Rattle.keyed.specs.State.{timer_moved, malformed_fields}
 use Rattle.keyed.proofs.Acceptance.{counted_none, counted-some}
-use borrow.Author.Rules.{rules}
 use Rattle.keyed.proofs.refusals.fields_malformed.Goals as goal
 
 pub returns-then-is_malformed : goal.returns-then-is_malformed

@@ -1,6 +1,5 @@
 use mathlib.Core.Path.{sym, ◌∙◌}
 use Rattle.keyed.proofs.Acceptance.{event-chains, then-done, then-refused}
-use borrow.Author.Rules.{rules}
 use Rattle.keyed.proofs.refusals.keyed_event_answer.Goals as goal
 
 pub returns-then-is_done : goal.returns-then-is_done

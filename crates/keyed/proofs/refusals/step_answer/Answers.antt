@@ -2,7 +2,6 @@ use borrow.Author.Tests.{eq-eqb, ne_eqb}
 use Rattle.pools.specs.Promises.{number}
 use Rattle.keyed.specs.Refusals.{max_step, step_number}
 use Rattle.keyed.proofs.Acceptance.{spent-once}
-use borrow.Author.Rules.{rules}
 use Rattle.keyed.proofs.refusals.step_answer.Goals as goal
 
 pub returns-then-t-eq-MAX_STEP : goal.returns-then-t-eq-MAX_STEP

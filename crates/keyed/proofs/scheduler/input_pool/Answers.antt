@@ -1,6 +1,5 @@
 use Rattle.pools.specs.Events.{pool_count}
 use Rattle.keyed.specs.Scheduler.{input_pool}
-use borrow.Author.Rules.{rules}
 use Rattle.keyed.proofs.scheduler.input_pool.Goals as goal
 
 pub returns : goal.returns

@@ -1,8 +1,7 @@
 use Rattle.std.proofs.Common.{eq-eqb, ne_eqb}
-use Prim.Native.Nat.{◌-◌, ◌≤◌, ◌<◌}
+use Prim.Native.Nat.{◌≤◌, ◌<◌}
 use native.Mathlib.Omega.{arith}
-use Rattle.keyed.proofs.Outputs.{Passed, passed_none, passed-some, passed-room, passed-more, passed-end, passed-all}
-use borrow.Author.Rules.{rules}
+use Rattle.keyed.proofs.Outputs.{passed_none, passed-room, passed-more, passed-end, passed-all}
 use Rattle.keyed.proofs.scheduler.output_pool.Goals as goal
 
 pub loop-i-init : goal.loop-i-init

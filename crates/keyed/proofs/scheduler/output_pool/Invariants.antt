@@ -1,7 +1,5 @@
-use Prim.Native.Nat.{◌-◌, ◌≤◌, ◌<◌}
-use native.Mathlib.Omega.{arith}
-use Rattle.keyed.proofs.Outputs.{Passed, passed_none, passed-some, passed-room, passed-more, passed-end, passed-all}
-use borrow.Author.Rules.{rules}
+use Prim.Native.Nat.{◌-◌}
+use Rattle.keyed.proofs.Outputs.{Passed}
 use Rattle.keyed.proofs.scheduler.output_pool.Given as goal
 
 abbrev pub invariant-loop-i : goal.invariant-loop-i

@@ -1,5 +1,4 @@
 use Rattle.pools.proofs.Outcomes.{draw-number}
-use Rattle.std.proofs.Common.{rules}
 use Rattle.pools.proofs.Fortuna.draw_answer.Goals as goal
 
 pub returns : goal.returns

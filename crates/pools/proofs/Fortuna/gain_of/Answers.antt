@@ -1,6 +1,6 @@
-use Rattle.std.proofs.Common.{◌≡◌, ◌-◌, length, sym, refl, ◌∙◌, ⊎_elim, rules}
+use Rattle.std.proofs.Common.{◌≡◌, length, sym, refl, ◌∙◌, rules}
 use Rattle.pools.specs.State.{pool_at}
-use Rattle.pools.proofs.Checks.{mapped-long, Checked, checked-none, checked-found, checked-passed, checked-all}
+use Rattle.pools.proofs.Checks.{mapped-long, checked-none, checked-found, checked-passed, checked-all}
 use Rattle.pools.proofs.EventCalls.{event-asks, comes-gained, comes-kept}
 use Rattle.pools.proofs.Fortuna.gain_of.Goals as goal
 use Rattle.pools.proofs.Fortuna.gain_of.Goals.{then-pool_malformed, else-pool_malformed}
@@ -16,8 +16,8 @@ loop-k-preserved c =
     let ps = c.args.self.pools in
     let looked = c.pool_malformed.ensures in
     elim c.if-pool_malformed.branch [
-      then-pool_malformed w ↦ checked-found ps _ at.malformed _ _ at.k full below looked at.invariant w.if-pool_malformed.true w.malformed-is
-    | else-pool_malformed w ↦ checked-passed ps _ at.malformed _ _ at.k full below looked at.invariant w.if-pool_malformed.false w.malformed-is
+      | then-pool_malformed w ↦ checked-found ps _ at.malformed _ _ at.k full below looked at.invariant w.if-pool_malformed.true w.malformed-is
+      | else-pool_malformed w ↦ checked-passed ps _ at.malformed _ _ at.k full below looked at.invariant w.if-pool_malformed.false w.malformed-is
     ]
 
 pub gained-next-requires : goal.gained-next-requires

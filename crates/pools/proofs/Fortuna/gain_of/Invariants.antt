@@ -1,7 +1,5 @@
-use Rattle.std.proofs.Common.{◌≡◌, ◌-◌, length, sym, refl, ◌∙◌, ⊎_elim, rules}
-use Rattle.pools.specs.State.{pool_at}
-use Rattle.pools.proofs.Checks.{mapped-long, Checked, checked-none, checked-found, checked-passed, checked-all}
-use Rattle.pools.proofs.EventCalls.{event-asks, comes-gained, comes-kept}
+use Rattle.std.proofs.Common.{◌-◌}
+use Rattle.pools.proofs.Checks.{Checked}
 use Rattle.pools.proofs.Fortuna.gain_of.Given as goal
 
 abbrev pub invariant-loop-k : goal.invariant-loop-k

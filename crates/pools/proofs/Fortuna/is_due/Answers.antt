@@ -1,4 +1,3 @@
-use Rattle.std.proofs.Common.{rules}
 use Rattle.pools.specs.State.{pool_at, due}
 use Rattle.pools.proofs.Fortuna.is_due.Goals as goal
 

@@ -1,5 +1,5 @@
-use Rattle.std.proofs.Common.{◌≡◌, ◌-◌, length, ⊎_elim, rules}
-use Rattle.pools.proofs.Checks.{mapped-long, Checked, checked-none, checked-found, checked-passed, checked-all}
+use Rattle.std.proofs.Common.{◌≡◌, length, rules}
+use Rattle.pools.proofs.Checks.{mapped-long, checked-none, checked-found, checked-passed, checked-all}
 use Rattle.pools.proofs.Fortuna.is_malformed.Goals as goal
 use Rattle.pools.proofs.Fortuna.is_malformed.Goals.{then-pool_malformed, else-pool_malformed}
 
@@ -14,8 +14,8 @@ loop-k-preserved c =
     let ps = c.args.self.pools in
     let looked = c.pool_malformed.ensures in
     elim c.if-pool_malformed.branch [
-      then-pool_malformed w ↦ checked-found ps _ at.malformed _ _ at.k full below looked at.invariant w.if-pool_malformed.true w.malformed-is
-    | else-pool_malformed w ↦ checked-passed ps _ at.malformed _ _ at.k full below looked at.invariant w.if-pool_malformed.false w.malformed-is
+      | then-pool_malformed w ↦ checked-found ps _ at.malformed _ _ at.k full below looked at.invariant w.if-pool_malformed.true w.malformed-is
+      | else-pool_malformed w ↦ checked-passed ps _ at.malformed _ _ at.k full below looked at.invariant w.if-pool_malformed.false w.malformed-is
     ]
 
 pub returns : goal.returns

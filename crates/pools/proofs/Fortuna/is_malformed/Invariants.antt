@@ -1,5 +1,5 @@
-use Rattle.std.proofs.Common.{◌≡◌, ◌-◌, length, ⊎_elim, rules}
-use Rattle.pools.proofs.Checks.{mapped-long, Checked, checked-none, checked-found, checked-passed, checked-all}
+use Rattle.std.proofs.Common.{◌-◌}
+use Rattle.pools.proofs.Checks.{Checked}
 use Rattle.pools.proofs.Fortuna.is_malformed.Given as goal
 
 abbrev pub invariant-loop-k : goal.invariant-loop-k

@@ -1,4 +1,3 @@
-use Rattle.std.proofs.Common.{rules}
 use Rattle.pools.specs.Events.{pool_count}
 use Rattle.pools.specs.State.{fresh}
 use Rattle.pools.proofs.Fortuna.new.Goals as goal

@@ -1,4 +1,4 @@
-use Rattle.std.proofs.Common.{length, rules}
+use Rattle.std.proofs.Common.{length}
 use Rattle.pools.specs.Calls.{request, input_buffer, call_number, call_effect}
 use Rattle.pools.proofs.Outcomes.{is-accepted, gives-done, gives-kept, request-number}
 use Rattle.pools.proofs.Servables.{request-servable}

@@ -1,4 +1,4 @@
-use Rattle.std.proofs.Common.{◌≡◌, length, sym, ◌∙◌, ⊎_elim, rules}
+use Rattle.std.proofs.Common.{◌≡◌, length, sym, ◌∙◌, rules}
 use Rattle.pools.specs.Effects.{reseed_if_due, emptied_by}
 use Rattle.pools.proofs.Serving.{reseedable, serve_is, served-due, served-not-due}
 use Rattle.pools.proofs.Fortuna.serve.Goals as goal
@@ -17,8 +17,8 @@ returns c =
     let g = c.pseudo_random_data-outcome in
     let before : (j.self ≡ reseed_if_due a.self a.clock) × (j.emptied ≡ emptied_by a.self a.clock) =
     elim j.branch [
-      then-reseeds w ↦ served-due a.self a.clock j.self j.emptied (sym p.0 ∙ w.if-reseeds.true) (search rules, search rules)
-    | else-reseeds w ↦ served-not-due a.self a.clock j.self j.emptied (sym p.0 ∙ w.if-reseeds.false) (search rules, search rules)
+      | then-reseeds w ↦ served-due a.self a.clock j.self j.emptied (sym p.0 ∙ w.if-reseeds.true) (search rules, search rules)
+      | else-reseeds w ↦ served-not-due a.self a.clock j.self j.emptied (sym p.0 ∙ w.if-reseeds.false) (search rules, search rules)
     ] in
     serve_is a.self a.clock a.out.now p.1 j.self j.emptied g.result.next g.new.out
     c.counted-more.result c.counted-more.ensures before (g.ensures.1, g.ensures.2)

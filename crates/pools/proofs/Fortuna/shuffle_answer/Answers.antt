@@ -1,5 +1,4 @@
 use Rattle.pools.proofs.Outcomes.{shuffle-number}
-use Rattle.std.proofs.Common.{rules}
 use Rattle.pools.proofs.Fortuna.shuffle_answer.Goals as goal
 
 pub returns : goal.returns

@@ -2,7 +2,6 @@ use Rattle.pools.specs.Effects.{update_seed}
 use Rattle.pools.specs.Calls.{update, input_buffer, call_number, call_effect}
 use Rattle.pools.proofs.Outcomes.{is-accepted, gives-done, gives-kept, update-number}
 use Rattle.pools.proofs.Servables.{update-servable, update-serves}
-use Rattle.std.proofs.Common.{rules}
 use Rattle.pools.proofs.Fortuna.update_seed.Goals as goal
 
 pub serve-served-requires : goal.serve-served-requires

@@ -2,7 +2,6 @@ use Rattle.pools.specs.Effects.{write_seed}
 use Rattle.pools.specs.Calls.{write, input_buffer, call_number, call_effect}
 use Rattle.pools.proofs.Outcomes.{is-accepted, gives-done, gives-kept, write-number}
 use Rattle.pools.proofs.Servables.{write-servable, write-serves}
-use Rattle.std.proofs.Common.{rules}
 use Rattle.pools.proofs.Fortuna.write_seed.Goals as goal
 
 pub serve-served-requires : goal.serve-served-requires

@@ -1,4 +1,4 @@
-use Rattle.std.proofs.Common.{◌∙◌, rules}
+use Rattle.std.proofs.Common.{◌∙◌}
 use Rattle.laws.proofs.Refusals.{guarded-done, guarded-refused}
 use Rattle.pools.specs.Refusals.{gained_pool}
 use Rattle.pools.proofs.GainedPools.{gained-asks}

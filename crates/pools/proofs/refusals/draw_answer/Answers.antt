@@ -1,4 +1,4 @@
-use Rattle.std.proofs.Common.{arith, rules}
+use Rattle.std.proofs.Common.{arith}
 use Rattle.pools.specs.Refusals.{max_tries, draw_number}
 use Rattle.pools.proofs.Acceptance.{draw-input}
 use Rattle.pools.proofs.Chains.{none_first, by_first, by-second}

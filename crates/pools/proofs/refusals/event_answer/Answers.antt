@@ -1,4 +1,4 @@
-use Rattle.std.proofs.Common.{◌≡◌, true, false, sym, ◌∙◌, rules, le-ltb, lt-ltb, eq-eqb, ne_eqb}
+use Rattle.std.proofs.Common.{◌≡◌, true, false, sym, ◌∙◌, le-ltb, lt-ltb, eq-eqb, ne_eqb}
 use Rattle.pools.specs.Events.{max_source, pool_count, max_data, header_length, gain}
 use Rattle.pools.specs.Pool.{full}
 use Rattle.pools.specs.Promises.{number}

@@ -1,4 +1,4 @@
-use Rattle.std.proofs.Common.{arith, rules}
+use Rattle.std.proofs.Common.{arith}
 use Rattle.pools.proofs.refusals.growth.Goals as goal
 
 pub returns-then-due : goal.returns-then-due

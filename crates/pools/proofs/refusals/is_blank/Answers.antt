@@ -1,4 +1,4 @@
-use Rattle.std.proofs.Common.{◌≡◌, ℕ, ◌+◌, ◌-◌, ◌<◌, ◌≤◌, List, length, get_or, replicate, refl, arith, rules}
+use Rattle.std.proofs.Common.{◌≡◌, ℕ, ◌+◌, ◌<◌, List, length, get_or, replicate, refl, arith}
 use lib.Bits.{bit_or, bit_xor}
 use lib.ListN.{length-replicate, get_or-replicate}
 use Rattle.pools.specs.Refusals.{seed_size, blank}

@@ -1,8 +1,5 @@
-use Rattle.std.proofs.Common.{◌≡◌, ℕ, ◌+◌, ◌-◌, ◌<◌, ◌≤◌, List, length, get_or, replicate, refl, arith, rules}
-use lib.Bits.{bit_or, bit_xor}
-use lib.ListN.{length-replicate, get_or-replicate}
-use Rattle.pools.specs.Refusals.{seed_size, blank}
-use Rattle.pools.proofs.Bits.{Compared, compared-more, compared-all}
+use Rattle.std.proofs.Common.{ℕ, ◌-◌, ◌≤◌, List, replicate}
+use Rattle.pools.proofs.Bits.{Compared}
 use Rattle.pools.proofs.refusals.is_blank.Given as goal
 
 -- what the bytes are compared with

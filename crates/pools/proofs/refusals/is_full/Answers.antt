@@ -1,4 +1,4 @@
-use Rattle.std.proofs.Common.{◌+◌, sym, arith, rules, lt-ltb}
+use Rattle.std.proofs.Common.{◌+◌, sym, arith, lt-ltb}
 use Rattle.pools.specs.Pool.{full}
 use Rattle.pools.proofs.Room.{room-test}
 use Rattle.pools.proofs.refusals.is_full.Goals as goal

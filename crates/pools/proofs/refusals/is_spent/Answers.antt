@@ -1,4 +1,4 @@
-use Rattle.std.proofs.Common.{◌∙◌, add_assoc, rules}
+use Rattle.std.proofs.Common.{◌∙◌, add_assoc}
 use Rattle.generator.proofs.Laws.{spent-is}
 use Rattle.pools.specs.Refusals.{spent}
 use Rattle.pools.proofs.refusals.is_spent.Goals as goal

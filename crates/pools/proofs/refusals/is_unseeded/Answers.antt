@@ -1,4 +1,4 @@
-use Rattle.std.proofs.Common.{◌∙◌, rules}
+use Rattle.std.proofs.Common.{◌∙◌}
 use mathlib.Core.Bool.{and-false, and-true}
 use Rattle.generator.proofs.Laws.{unseeded-is}
 use Rattle.pools.specs.Refusals.{unseeded}

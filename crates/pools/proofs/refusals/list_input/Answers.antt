@@ -1,5 +1,5 @@
 use mathlib.Core.Bool.{or-true}
-use Rattle.std.proofs.Common.{rules, le-ltb, lt-ltb}
+use Rattle.std.proofs.Common.{le-ltb, lt-ltb}
 use Rattle.pools.specs.Promises.{number}
 use Rattle.pools.specs.Refusals.{max_list, list_input}
 use Rattle.pools.proofs.refusals.list_input.Goals as goal

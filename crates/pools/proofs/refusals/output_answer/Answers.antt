@@ -1,6 +1,5 @@
 use Rattle.pools.specs.Promises.{number}
 use Rattle.pools.specs.Refusals.{output_state}
-use Rattle.std.proofs.Common.{rules}
 use Rattle.pools.proofs.refusals.output_answer.Goals as goal
 
 pub returns-then-malformed : goal.returns-then-malformed

@@ -1,4 +1,4 @@
-use Rattle.std.proofs.Common.{arith, rules}
+use Rattle.std.proofs.Common.{arith}
 use Rattle.generator.proofs.Laws.{few-blocks}
 use Rattle.pools.specs.Refusals.{request_number}
 use Rattle.pools.proofs.Acceptance.{request-input}

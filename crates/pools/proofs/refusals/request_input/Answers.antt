@@ -1,4 +1,4 @@
-use Rattle.std.proofs.Common.{rules, le-ltb, lt-ltb}
+use Rattle.std.proofs.Common.{le-ltb, lt-ltb}
 use Rattle.pools.specs.Promises.{number}
 use Rattle.pools.specs.Refusals.{request_input}
 use Rattle.pools.proofs.refusals.request_input.Goals as goal

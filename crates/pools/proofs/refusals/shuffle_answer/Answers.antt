@@ -1,4 +1,4 @@
-use Rattle.std.proofs.Common.{arith, rules, le-ltb, lt-ltb}
+use Rattle.std.proofs.Common.{arith, le-ltb, lt-ltb}
 use Rattle.pools.specs.Promises.{number}
 use Rattle.pools.specs.Refusals.{max_list, shuffle_state, shuffle_number}
 use Rattle.pools.proofs.Acceptance.{list-input}

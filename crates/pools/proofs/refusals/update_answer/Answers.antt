@@ -1,4 +1,4 @@
-use Rattle.std.proofs.Common.{lit≤, rules}
+use Rattle.std.proofs.Common.{lit≤}
 use Rattle.pools.specs.Promises.{number}
 use Rattle.pools.specs.Refusals.{update_state, update_number}
 use Rattle.pools.proofs.Chains.{by_first, by-second}

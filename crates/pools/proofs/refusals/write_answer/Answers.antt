@@ -1,4 +1,4 @@
-use Rattle.std.proofs.Common.{arith, lit≤, rules}
+use Rattle.std.proofs.Common.{arith, lit≤}
 use Rattle.generator.proofs.Laws.{few-blocks, small-request}
 use Rattle.pools.specs.Refusals.{seed_size, write_number}
 use Rattle.pools.proofs.Chains.{by_first, by-second}

@@ -1,9 +1,9 @@
-use Rattle.std.proofs.Common.{◌≡◌, ◌+◌, ◌-◌, ◌*◌, ◌^◌, ◌≤◌, true, false, length, refl, ◌∙◌, eq-eqb, ne_eqb, pow-suc, add-one, arith, pow_pos, pow_mono, rules}
+use Rattle.std.proofs.Common.{◌≡◌, ◌+◌, ◌-◌, ◌*◌, ◌^◌, ◌≤◌, true, false, length, refl, ◌∙◌, eq-eqb, ne_eqb, pow-suc, add-one, arith, pow_mono, rules}
 use Rattle.pools.specs.Schedule.{used}
 use Rattle.pools.specs.Collected.{nth}
 use Rattle.pools.proofs.PoolTests.{digest-of-pool}
 use Rattle.pools.proofs.Prefix.{used-by-power, unused-after}
-use Rattle.pools.proofs.Collecting.{Taken, taken_none, taken_more, taken-all}
+use Rattle.pools.proofs.Collecting.{taken_none, taken_more, taken-all}
 use Rattle.pools.proofs.schedule.collect_digests.Goals as goal
 
 pub loop-count-init : goal.loop-count-init

@@ -1,5 +1,5 @@
-use Rattle.std.proofs.Common.{◌≡◌, ◌-◌, length, ⊎_elim, rules}
-use Rattle.pools.proofs.Checks.{mapped-long, Checked, checked-none, checked-found, checked-passed, checked-pools}
+use Rattle.std.proofs.Common.{◌≡◌, length, rules}
+use Rattle.pools.proofs.Checks.{mapped-long, checked-none, checked-found, checked-passed, checked-pools}
 use Rattle.pools.proofs.well_formed.any_malformed.Goals as goal
 use Rattle.pools.proofs.well_formed.any_malformed.Goals.{then-pool_malformed, else-pool_malformed}
 
@@ -13,8 +13,8 @@ loop-k-preserved c =
     let below = c.loop-k-test.true in
     let found = c.pool_malformed.ensures in
     elim c.if-pool_malformed.branch [
-      then-pool_malformed w ↦ checked-found c.args.pools _ at.malformed _ _ at.k full below found at.invariant w.if-pool_malformed.true w.malformed-is
-    | else-pool_malformed w ↦ checked-passed c.args.pools _ at.malformed _ _ at.k full below found at.invariant w.if-pool_malformed.false w.malformed-is
+      | then-pool_malformed w ↦ checked-found c.args.pools _ at.malformed _ _ at.k full below found at.invariant w.if-pool_malformed.true w.malformed-is
+      | else-pool_malformed w ↦ checked-passed c.args.pools _ at.malformed _ _ at.k full below found at.invariant w.if-pool_malformed.false w.malformed-is
     ]
 
 pub returns : goal.returns

@@ -1,5 +1,5 @@
-use Rattle.std.proofs.Common.{◌≡◌, ◌-◌, length, ⊎_elim, rules}
-use Rattle.pools.proofs.Checks.{mapped-long, Checked, checked-none, checked-found, checked-passed, checked-pools}
+use Rattle.std.proofs.Common.{◌-◌}
+use Rattle.pools.proofs.Checks.{Checked}
 use Rattle.pools.proofs.well_formed.any_malformed.Given as goal
 
 abbrev pub invariant-loop-k : goal.invariant-loop-k

@@ -1,5 +1,5 @@
-use Rattle.std.proofs.Common.{◌≡◌, ◌-◌, ◌<◌, ◌≤◌, length, arith, rules}
-use Rattle.pools.proofs.Bits.{Found, found_none, found_turn, found_all}
+use Rattle.std.proofs.Common.{◌≡◌, ◌<◌, length, arith, rules}
+use Rattle.pools.proofs.Bits.{found_none, found_turn, found_all}
 use Rattle.pools.proofs.well_formed.bits_from.Goals as goal
 
 pub loop-i-init : goal.loop-i-init

@@ -1,5 +1,5 @@
-use Rattle.std.proofs.Common.{◌≡◌, ◌-◌, ◌<◌, ◌≤◌, length, arith, rules}
-use Rattle.pools.proofs.Bits.{Found, found_none, found_turn, found_all}
+use Rattle.std.proofs.Common.{◌-◌, ◌≤◌}
+use Rattle.pools.proofs.Bits.{Found}
 use Rattle.pools.proofs.well_formed.bits_from.Given as goal
 
 abbrev pub invariant-loop-i : goal.invariant-loop-i

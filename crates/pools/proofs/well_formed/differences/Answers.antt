@@ -1,5 +1,5 @@
-use Rattle.std.proofs.Common.{◌≡◌, ◌-◌, ◌≤◌, length, refl, arith, rules}
-use Rattle.pools.proofs.Bits.{Compared, compared-more, compared-all}
+use Rattle.std.proofs.Common.{◌≡◌, length, refl, arith, rules}
+use Rattle.pools.proofs.Bits.{compared-more, compared-all}
 use Rattle.pools.proofs.well_formed.differences.Goals as goal
 
 pub loop-i-init : goal.loop-i-init

@@ -1,5 +1,5 @@
-use Rattle.std.proofs.Common.{◌≡◌, ◌-◌, ◌≤◌, length, refl, arith, rules}
-use Rattle.pools.proofs.Bits.{Compared, compared-more, compared-all}
+use Rattle.std.proofs.Common.{◌-◌, ◌≤◌}
+use Rattle.pools.proofs.Bits.{Compared}
 use Rattle.pools.proofs.well_formed.differences.Given as goal
 
 abbrev pub invariant-loop-i : goal.invariant-loop-i

@@ -1,4 +1,4 @@
-use Rattle.std.proofs.Common.{◌≡◌, Bool, true, false, ◌&&◌, ◌||◌, sym, refl, ◌∙◌, rules, eq-eqb, ne_eqb}
+use Rattle.std.proofs.Common.{◌≡◌, Bool, true, false, ◌&&◌, ◌||◌, sym, refl, ◌∙◌, eq-eqb, ne_eqb}
 use mathlib.Core.Bool.{and-true, and-false}
 use Rattle.generator.proofs.Laws.{unseeded-is}
 use Rattle.pools.specs.State.{unseeded_reseeded, stray_timer, unseeded_counted, malformed_fields}

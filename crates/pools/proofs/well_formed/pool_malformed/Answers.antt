@@ -1,4 +1,4 @@
-use Rattle.std.proofs.Common.{◌≡◌, ◌%◌, true, false, not, drop, sym, ap, ◌∙◌, rules, le-ltb, lt-ltb, eq-eqb, ne_eqb}
+use Rattle.std.proofs.Common.{◌≡◌, ◌%◌, true, false, not, drop, sym, ap, ◌∙◌, le-ltb, lt-ltb, eq-eqb, ne_eqb}
 use Rattle.laws.specs.Lists.{all_zero}
 use Rattle.pools.specs.Pool.{too_long, dirty_tail, stray_chain, malformed_pool}
 use Rattle.pools.proofs.well_formed.pool_malformed.Goals as goal

@@ -1,7 +1,5 @@
-use Prim.Native.Nat.{◌-◌}
 use native.Mathlib.Omega.{arith}
-use Rattle.slots.proofs.LeastBits.{Searched, searched-none, searched-found, searched-more, searched-all}
-use borrow.Author.Rules.{rules}
+use Rattle.slots.proofs.LeastBits.{searched-none, searched-found, searched-more, searched-all}
 use Rattle.slots.proofs.bits.bits_for.Goals as goal
 
 pub loop-k-init : goal.loop-k-init

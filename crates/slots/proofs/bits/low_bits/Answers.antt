@@ -1,6 +1,4 @@
-use lib.Pow.{pow_pos}
 use Rattle.slots.proofs.LeastBits.{all-bits}
-use borrow.Author.Rules.{rules}
 use Rattle.slots.proofs.bits.low_bits.Goals as goal
 
 pub returns-then-k-lt32 : goal.returns-then-k-lt32

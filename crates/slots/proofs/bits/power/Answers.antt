@@ -1,7 +1,6 @@
 use Prim.Native.Nat.{◌^◌}
 use native.Mathlib.Nat.{one-mul}
 use Rattle.slots.proofs.LeastBits.{power-fits}
-use borrow.Author.Rules.{rules}
 use Rattle.slots.proofs.bits.power.Goals as goal
 
 pub returns : goal.returns

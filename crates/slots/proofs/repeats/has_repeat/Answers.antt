@@ -1,10 +1,6 @@
-use mathlib.Core.Path.{◌≡◌, refl, sym, ◌∙◌}
-use Prim.Native.Nat.{◌-◌}
+use mathlib.Core.Path.{refl, sym, ◌∙◌}
 use native.Mathlib.Omega.{arith}
-use lib.ListN.{length, drop}
-use Rattle.slots.specs.Shuffle.{has_repeat}
 use Rattle.slots.proofs.NoRepeat.{repeat-here, repeat_past, repeat-end}
-use borrow.Author.Rules.{rules}
 use Rattle.slots.proofs.repeats.has_repeat.Goals as goal
 
 pub loop-i-init : goal.loop-i-init

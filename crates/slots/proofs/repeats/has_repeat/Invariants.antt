@@ -1,10 +1,7 @@
-use mathlib.Core.Path.{◌≡◌, refl, sym, ◌∙◌}
+use mathlib.Core.Path.{◌≡◌}
 use Prim.Native.Nat.{◌-◌}
-use native.Mathlib.Omega.{arith}
 use lib.ListN.{length, drop}
 use Rattle.slots.specs.Shuffle.{has_repeat}
-use Rattle.slots.proofs.NoRepeat.{repeat-here, repeat_past, repeat-end}
-use borrow.Author.Rules.{rules}
 use Rattle.slots.proofs.repeats.has_repeat.Given as goal
 
 abbrev pub invariant-loop-i : goal.invariant-loop-i

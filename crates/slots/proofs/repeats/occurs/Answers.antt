@@ -1,10 +1,6 @@
-use mathlib.Core.Path.{◌≡◌, refl, sym, ◌∙◌}
-use Prim.Native.Nat.{◌-◌}
+use mathlib.Core.Path.{refl, sym, ◌∙◌}
 use native.Mathlib.Omega.{arith}
-use lib.ListN.{length, drop}
-use Rattle.slots.specs.Shuffle.{is_in}
 use Rattle.slots.proofs.NoRepeat.{in-here, in-past, in_end}
-use borrow.Author.Rules.{rules}
 use Rattle.slots.proofs.repeats.occurs.Goals as goal
 
 pub loop-i-init : goal.loop-i-init

@@ -1,10 +1,7 @@
-use mathlib.Core.Path.{◌≡◌, refl, sym, ◌∙◌}
+use mathlib.Core.Path.{◌≡◌}
 use Prim.Native.Nat.{◌-◌}
-use native.Mathlib.Omega.{arith}
 use lib.ListN.{length, drop}
 use Rattle.slots.specs.Shuffle.{is_in}
-use Rattle.slots.proofs.NoRepeat.{in-here, in-past, in_end}
-use borrow.Author.Rules.{rules}
 use Rattle.slots.proofs.repeats.occurs.Given as goal
 
 abbrev pub invariant-loop-i : goal.invariant-loop-i

@@ -1,9 +1,6 @@
 use Prim.Native.Nat.{◌-◌, ◌%◌, ◌≤◌}
-use mathlib.Core.Path.{◌≡◌, refl}
-use native.Mathlib.Omega.{arith}
-use borrow.Author.Rules.{rules}
-use Rattle.word_cipher.specs.Cipher.{word_rounds, word_cipher}
-use Rattle.word_cipher.proofs.Rounds.{two-more, rounds-13}
+use mathlib.Core.Path.{◌≡◌}
+use Rattle.word_cipher.specs.Cipher.{word_rounds}
 use Rattle.word_cipher.proofs.block.encrypt_by.Given as goal
 
 abbrev pub invariant-loop-n : goal.invariant-loop-n

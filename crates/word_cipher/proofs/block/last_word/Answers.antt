@@ -1,5 +1,4 @@
 use Rattle.word_cipher.specs.Cipher.{last_word}
-use borrow.Author.Rules.{rules}
 use Rattle.word_cipher.proofs.block.last_word.Goals as goal
 
 pub returns : goal.returns

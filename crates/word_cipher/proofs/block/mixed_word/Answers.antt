@@ -1,5 +1,4 @@
 use Rattle.word_cipher.specs.Cipher.{mixed_word}
-use borrow.Author.Rules.{rules}
 use Rattle.word_cipher.proofs.block.mixed_word.Goals as goal
 
 pub returns : goal.returns

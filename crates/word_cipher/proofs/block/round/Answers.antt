@@ -1,6 +1,5 @@
 use Rattle.word_cipher.specs.Cipher.{word_round}
 use Rattle.word_cipher.proofs.Rounds.{columns-are}
-use borrow.Author.Rules.{rules}
 use Rattle.word_cipher.proofs.block.round.Goals as goal
 
 pub returns : goal.returns

@@ -1,5 +1,4 @@
 use Rattle.word_cipher.specs.Cipher.{substituted}
-use borrow.Author.Rules.{rules}
 use Rattle.word_cipher.proofs.block.substituted.Goals as goal
 
 pub returns : goal.returns

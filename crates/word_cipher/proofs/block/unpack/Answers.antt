@@ -1,9 +1,7 @@
-use Prim.Native.Nat.{◌-◌, ◌/◌, ◌%◌}
 use mathlib.Core.Path.{refl}
 use lib.ListN.{replicate}
-use Rattle.laws.proofs.Tabulate.{Filled, filled_none, filled_more, filled-all}
-use Rattle.cipher.specs.Aes.{at}
-use Rattle.word_cipher.specs.Words.{byte_of, unpacked}
+use Rattle.laws.proofs.Tabulate.{filled_none, filled_more, filled-all}
+use Rattle.word_cipher.specs.Words.{unpacked}
 use borrow.Author.Rules.{rules}
 use Rattle.word_cipher.proofs.block.unpack.Goals as goal
 

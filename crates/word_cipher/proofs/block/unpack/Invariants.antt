@@ -1,10 +1,7 @@
 use Prim.Native.Nat.{◌-◌, ◌/◌, ◌%◌}
-use mathlib.Core.Path.{refl}
-use lib.ListN.{replicate}
-use Rattle.laws.proofs.Tabulate.{Filled, filled_none, filled_more, filled-all}
+use Rattle.laws.proofs.Tabulate.{Filled}
 use Rattle.cipher.specs.Aes.{at}
-use Rattle.word_cipher.specs.Words.{byte_of, unpacked}
-use borrow.Author.Rules.{rules}
+use Rattle.word_cipher.specs.Words.{byte_of}
 use Rattle.word_cipher.proofs.block.unpack.Given as goal
 
 abbrev pub invariant-loop-i : goal.invariant-loop-i

@@ -1,7 +1,6 @@
 use Rattle.laws.specs.Lists.{tabulate}
 use Rattle.word_cipher.specs.Words.{packed}
 use Rattle.word_cipher.specs.Cipher.{add_words}
-use borrow.Author.Rules.{rules}
 use Rattle.word_cipher.proofs.block.whiten.Goals as goal
 
 pub returns : goal.returns

@@ -1,4 +1,3 @@
-use borrow.Author.Rules.{rules}
 use Rattle.word_cipher.proofs.block.write_block.Goals as goal
 
 pub returns : goal.returns

@@ -1,4 +1,3 @@
-use Prim.Native.Nat.{◌-◌, ◌≤◌}
 use mathlib.Core.Path.{refl}
 use native.Mathlib.Omega.{arith}
 use mir.Val.{Fits}
@@ -6,8 +5,7 @@ use mir.Syntax.{w8}
 use lib.ListN.{get_or, replicate}
 use borrow.Author.Rules.{rules}
 use Rattle.cipher.specs.Aes.{Bytes}
-use Rattle.laws.proofs.Tabulate.{Filled, filled_none, filled_more}
-use Rattle.word_cipher.specs.Words.{word_in}
+use Rattle.laws.proofs.Tabulate.{filled_none, filled_more}
 use Rattle.word_cipher.proofs.Expansion.{loaded}
 use Rattle.word_cipher.proofs.key.expand_key.Goals as goal
 

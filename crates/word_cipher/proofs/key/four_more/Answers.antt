@@ -1,6 +1,5 @@
 use mathlib.Core.Path.{refl}
 use Rattle.word_cipher.specs.Schedule.{four_more}
-use borrow.Author.Rules.{rules}
 use Rattle.word_cipher.proofs.key.four_more.Goals as goal
 
 pub returns : goal.returns

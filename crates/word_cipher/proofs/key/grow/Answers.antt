@@ -1,9 +1,8 @@
-use Prim.Native.Nat.{◌-◌}
 use mathlib.Core.Path.{ap, ◌∙◌}
 use native.Mathlib.Omega.{arith}
 use lib.ListN.{length}
 use borrow.Author.Rules.{rules}
-use Rattle.word_cipher.proofs.Expansion.{Grown, grown-none, grown-more, grown-all, length-four}
+use Rattle.word_cipher.proofs.Expansion.{grown-none, grown-more, grown-all, length-four}
 use Rattle.word_cipher.proofs.key.grow.Goals as goal
 
 pub loop-i-init : goal.loop-i-init

@@ -1,9 +1,5 @@
 use Prim.Native.Nat.{◌-◌}
-use mathlib.Core.Path.{ap, ◌∙◌}
-use native.Mathlib.Omega.{arith}
-use lib.ListN.{length}
-use borrow.Author.Rules.{rules}
-use Rattle.word_cipher.proofs.Expansion.{Grown, grown-none, grown-more, grown-all, length-four}
+use Rattle.word_cipher.proofs.Expansion.{Grown}
 use Rattle.word_cipher.proofs.key.grow.Given as goal
 
 abbrev pub invariant-loop-i : goal.invariant-loop-i

@@ -1,5 +1,4 @@
 use Rattle.word_cipher.specs.Schedule.{rotated_temp}
-use borrow.Author.Rules.{rules}
 use Rattle.word_cipher.proofs.key.rotated_temp.Goals as goal
 
 pub returns : goal.returns

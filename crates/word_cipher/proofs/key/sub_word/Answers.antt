@@ -1,5 +1,4 @@
 use Rattle.word_cipher.specs.Schedule.{sub_words}
-use borrow.Author.Rules.{rules}
 use Rattle.word_cipher.proofs.key.sub_word.Goals as goal
 
 pub returns : goal.returns

@@ -1,6 +1,5 @@
 use mathlib.Core.Path.{refl}
 use Rattle.word_cipher.specs.Words.{byte_of}
-use borrow.Author.Rules.{rules}
 use Rattle.word_cipher.proofs.word.byte_of.Goals as goal
 
 pub returns : goal.returns

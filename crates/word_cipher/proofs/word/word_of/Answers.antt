@@ -1,6 +1,5 @@
 use native.Mathlib.Omega.{arith}
 use Rattle.word_cipher.specs.Words.{word}
-use borrow.Author.Rules.{rules}
 use Rattle.word_cipher.proofs.word.word_of.Goals as goal
 
 pub returns : goal.returns

@@ -1,5 +1,4 @@
 use Rattle.ctr_drbg.specs.Operations.{number}
-use borrow.Author.Rules.{rules}
 use Rattle.ctr_drbg.proofs.answer.Answer.number.Goals as goal
 
 pub returns-in-Done : goal.returns-in-Done

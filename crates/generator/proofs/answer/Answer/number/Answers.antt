@@ -1,5 +1,4 @@
 use Rattle.generator.specs.Operations.{number}
-use borrow.Author.Rules.{rules}
 use Rattle.generator.proofs.answer.Answer.number.Goals as goal
 
 pub returns-in-Done : goal.returns-in-Done

@@ -1,5 +1,4 @@
 use Rattle.hash.specs.Answers.{number}
-use Rattle.std.proofs.Common.{rules}
 use Rattle.hash.proofs.answer.Answer.number.Goals as goal
 
 pub returns-in-Done : goal.returns-in-Done

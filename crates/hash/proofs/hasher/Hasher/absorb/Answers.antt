@@ -1,4 +1,4 @@
-use Rattle.std.proofs.Common.{sym, ◌∙◌, rules, ltb-false}
+use Rattle.std.proofs.Common.{sym, ◌∙◌, ltb-false}
 use Rattle.hash.specs.ShaD.{max_message}
 use Rattle.hash.specs.Answers.{number}
 use Rattle.hash.proofs.Answers.{number-refused, number-accepted, next-refused, next-accepted}

@@ -1,4 +1,4 @@
-use Rattle.std.proofs.Common.{◌∙◌, add-zero, rules}
+use Rattle.std.proofs.Common.{◌∙◌, add-zero}
 use Rattle.hash.specs.ShaD.{max_message}
 use Rattle.hash.proofs.Answers.{hash-refused, hash-accepted}
 use Rattle.hash.proofs.hasher.Hasher.finish.Goals as goal

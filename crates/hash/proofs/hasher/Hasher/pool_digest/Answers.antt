@@ -1,4 +1,4 @@
-use Rattle.std.proofs.Common.{sym, ◌∙◌, add-zero, rules, ltb-false}
+use Rattle.std.proofs.Common.{sym, ◌∙◌, add-zero, ltb-false}
 use Rattle.hash.specs.ShaD.{max_message, max_d_message, max_pool_length}
 use Rattle.hash.proofs.Answers.{hash-refused, hash-accepted}
 use Rattle.hash.proofs.hasher.Hasher.pool_digest.Goals as goal

@@ -1,4 +1,4 @@
-use Rattle.std.proofs.Common.{ℕ, eqb, ap, rules}
+use Rattle.std.proofs.Common.{ℕ, eqb, ap}
 use Rattle.pools.proofs.answer.Answer.is_done.Goals as goal
 
 pub returns : goal.returns

@@ -1,5 +1,4 @@
 use Rattle.pools.specs.Promises.{number}
-use Rattle.std.proofs.Common.{rules}
 use Rattle.pools.proofs.answer.Answer.number.Goals as goal
 
 pub returns-in-Done : goal.returns-in-Done
