@@ -24,7 +24,8 @@
    examples/c/station.c does this with a ring buffer. Calls on different states may run at the same time.
 
    Stack. On x86-64 a call needs at most this many bytes of stack, the caller's copy of what it returns included
-   (tests/compiled/footprint.py measures it; docs/BENCHMARKS.md has the figures):
+   (tests/compiled/footprint.py holds the library to it). The bounds were set by what was measured with an older kit,
+   rattle-kit-5b-plain; docs/BENCHMARKS.md has the figures:
 
        fortuna_sha256                   2,048
        fortuna_sha_d256                 2,048
