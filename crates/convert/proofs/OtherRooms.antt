@@ -7,7 +7,7 @@ use mathlib.Core.Logic.{◌⊎◌, inl, inr}
 use Prim.Native.Nat.{ℕ, suc, ◌+◌, ◌-◌, ◌≤◌}
 use native.Mathlib.Omega.{arith}
 use lib.ListN.{length}
-use Rattle.convert.specs.Logs.{Line, written_of, refusal_of, Conversion, with_bytes, converted_lines, conversion}
+use Rattle.convert.specs.Logs.{Line, written_of, refusal_of, Conversion, with_bytes, converted_lines}
 use Rattle.convert.proofs.Conversions.{LineAccepted, RoomRefused, TextRefused, which, no-refusal, refusal-text, goes_on, stops, no_lines, number-with, length-with}
 
 -- where the first line is accepted, or its text is refused

@@ -1,5 +1,6 @@
 // Call logs of both kinds (02 (xii)): event frames 01 become 05, or 05 become 01, line by line, into a lent buffer.
 #![tactic(auto)]
+
 mod action;
 mod answer;
 mod line;

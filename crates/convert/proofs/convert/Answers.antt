@@ -1,9 +1,9 @@
 use mathlib.Core.Path.{sym, ◌∙◌}
-use Prim.Native.Nat.{◌-◌, ◌^◌, ◌<◌}
+use Prim.Native.Nat.{◌^◌, ◌<◌}
 use native.Mathlib.Omega.{arith}
 use lib.ListN.{length}
 use borrow.Author.Tests.{not-true, not-false, eqb-true, eqb-false}
-use Rattle.convert.proofs.Walks.{Walked, walked_none, used-some, at-within, walk-on, walk_kept, walk-stops, walk_ends}
+use Rattle.convert.proofs.Walks.{walked_none, used-some, at-within, walk-on, walk_kept, walk-stops, walk_ends}
 use borrow.Author.Rules.{rules}
 use mathlib.Core.Path.{ap}
 use mathlib.Core.Bool.{not}

@@ -1,6 +1,5 @@
 use mathlib.Core.Path.{sym, ◌∙◌}
 use Rattle.convert.specs.Texts.{action_of}
-use borrow.Author.Rules.{rules}
 use Rattle.convert.proofs.action.action_of.Goals as goal
 
 pub returns-in-Event : goal.returns-in-Event

@@ -1,6 +1,5 @@
 use borrow.Author.Tests.{lt-ltb, le-ltb}
 use Rattle.convert.specs.Texts.{max_narrow_source}
-use borrow.Author.Rules.{rules}
 use Rattle.convert.proofs.action.wide_event_action.Goals as goal
 
 pub returns-then-source-gt-MAX_NARROW_SOURCE : goal.returns-then-source-gt-MAX_NARROW_SOURCE

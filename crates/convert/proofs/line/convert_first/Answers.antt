@@ -3,7 +3,6 @@ use native.Mathlib.Omega.{arith}
 use lib.Seq.{length-take-le}
 use Rattle.bench.proofs.Lines.{used-fits}
 use Rattle.convert.proofs.Writes.{first-within, first-used, first-converted}
-use borrow.Author.Rules.{rules}
 use Rattle.convert.proofs.line.convert_first.Goals as goal
 
 pub slice_bounds-convert_line-end : goal.slice_bounds-convert_line-end

@@ -2,7 +2,6 @@ use mathlib.Core.Path.{refl, sym, ap, ◌∙◌}
 use Rattle.convert.specs.Texts.{action_of, widened, narrowed, carried_out, action_number}
 use Rattle.convert.specs.Promises.{number}
 use Rattle.convert.proofs.Writes.{line_taken, line-left}
-use borrow.Author.Rules.{rules}
 use Rattle.convert.proofs.line.convert_line.Goals as goal
 
 pub returns-in-Keep : goal.returns-in-Keep

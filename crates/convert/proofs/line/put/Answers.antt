@@ -1,6 +1,5 @@
 use native.Mathlib.Omega.{arith}
 use Rattle.convert.proofs.Stores.{end-small, put-nothing, put_all}
-use borrow.Author.Rules.{rules}
 use Rattle.convert.proofs.line.put.Goals as goal
 
 pub overflow_add-total : goal.overflow_add-total

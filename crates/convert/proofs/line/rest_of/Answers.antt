@@ -2,7 +2,6 @@ use mathlib.Core.Path.{sym}
 use native.Mathlib.Omega.{arith}
 use lib.ListN.{drop_of_length-le}
 use Rattle.laws.proofs.Copy.{part_end}
-use borrow.Author.Rules.{rules}
 use Rattle.convert.proofs.line.rest_of.Goals as goal
 
 pub returns-then-text-n : goal.returns-then-text-n

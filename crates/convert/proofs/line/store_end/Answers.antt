@@ -1,5 +1,4 @@
 use Rattle.convert.proofs.Stores.{end-room, end-stored, no_end}
-use borrow.Author.Rules.{rules}
 use Rattle.convert.proofs.line.store_end.Goals as goal
 
 pub bounds-out-at : goal.bounds-out-at

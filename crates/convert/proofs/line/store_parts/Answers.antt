@@ -1,5 +1,4 @@
 use Rattle.convert.proofs.Stores.{parts-stored}
-use borrow.Author.Rules.{rules}
 use Rattle.convert.proofs.line.store_parts.Goals as goal
 
 pub returns : goal.returns

@@ -1,5 +1,4 @@
 use Rattle.convert.specs.Promises.{number}
-use borrow.Author.Rules.{rules}
 use Rattle.convert.proofs.answer.Answer.number.Goals as goal
 
 pub returns-in-Converted : goal.returns-in-Converted
