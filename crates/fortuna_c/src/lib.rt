@@ -1,5 +1,6 @@
 // The C interface: include/fortuna.h says the same in C's words.
 #![tactic(auto)]
+
 mod aes256;
 mod aes256_bytewise;
 mod call_logs;

@@ -1,4 +1,3 @@
-use borrow.Author.Rules.{rules}
 use Rattle.fortuna_c.proofs.fortuna_generator.fortuna_generator_request.Goals as goal
 
 pub returns : goal.returns

@@ -1,6 +1,5 @@
 use mathlib.Core.Path.{ap, ◌∙◌}
 use Rattle.fortuna_c.specs.PoolStrings.{entry_of}
-use borrow.Author.Rules.{rules}
 use Rattle.fortuna_c.proofs.pool_strings.fortuna_entry_at.Goals as goal
 
 pub returns : goal.returns

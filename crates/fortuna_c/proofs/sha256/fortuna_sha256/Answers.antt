@@ -1,6 +1,5 @@
 use mathlib.Core.Path.{◌∙◌}
 use lib.ListN.{length}
-use borrow.Author.Rules.{rules}
 use Rattle.hash.specs.Sha256.{sha256}
 use Rattle.hash.specs.ShaD.{max_message}
 use Rattle.fortuna_c.proofs.Buffers.{stored}

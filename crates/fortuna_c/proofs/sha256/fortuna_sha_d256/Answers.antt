@@ -1,6 +1,5 @@
 use mathlib.Core.Path.{◌∙◌}
 use lib.ListN.{length}
-use borrow.Author.Rules.{rules}
 use Rattle.hash.specs.ShaD.{max_d_message, D}
 use Rattle.fortuna_c.proofs.Buffers.{stored}
 use Rattle.fortuna_c.proofs.sha256.fortuna_sha_d256.Goals as goal

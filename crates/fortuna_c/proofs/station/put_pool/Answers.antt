@@ -1,4 +1,4 @@
-use Rattle.std.proofs.Common.{◌≡◌, refl}
+use Rattle.std.proofs.Common.{refl}
 use Rattle.pools.specs.Effects.{with_pool}
 use Rattle.fortuna_c.proofs.station.put_pool.Goals as goal
 
