@@ -28,40 +28,40 @@
    rattle-kit-5b-plain; docs/BENCHMARKS.md has the figures:
 
        fortuna_sha256                   2,048
-       fortuna_sha_d256                 2,048
+       fortuna_sha_d256                 2,560
        fortuna_aes256_expand            1,280
        fortuna_aes256_block             5,120
        fortuna_aes256_bytewise_expand   1,024
        fortuna_aes256_bytewise_block    1,024
        fortuna_generator_new              256
-       fortuna_generator_reseed         2,560
+       fortuna_generator_reseed         3,072
        fortuna_generator_blocks         5,632
        fortuna_generator_request        5,632
        fortuna_new                     12,288
-       fortuna_event                    9,216
-       fortuna_request                 43,008
-       fortuna_update                  46,080
-       fortuna_write                   43,008
-       fortuna_random_below            53,248
-       fortuna_shuffle                 61,440
+       fortuna_event                    9,728
+       fortuna_request                 51,200
+       fortuna_update                  55,296
+       fortuna_write                   51,200
+       fortuna_random_below            65,536
+       fortuna_shuffle                 75,776
        fortuna_metered_event           13,312
-       fortuna_metered_request         43,008
-       fortuna_metered_update          50,176
-       fortuna_metered_write           43,008
-       fortuna_metered_random_below    53,248
-       fortuna_metered_shuffle         64,512
+       fortuna_metered_request         48,128
+       fortuna_metered_update          58,368
+       fortuna_metered_write           48,128
+       fortuna_metered_random_below    68,608
+       fortuna_metered_shuffle         82,944
        fortuna_keyed_new               12,288
-       fortuna_keyed_event             26,624
-       fortuna_keyed_request           20,480
-       fortuna_keyed_update            20,480
-       fortuna_keyed_write             20,480
-       fortuna_keyed_metered_event     33,792
-       fortuna_keyed_metered_request   20,480
-       fortuna_keyed_metered_update    20,480
-       fortuna_keyed_metered_write     20,480
+       fortuna_keyed_event             33,792
+       fortuna_keyed_request           23,552
+       fortuna_keyed_update            23,552
+       fortuna_keyed_write             23,552
+       fortuna_keyed_metered_event     44,032
+       fortuna_keyed_metered_request   26,624
+       fortuna_keyed_metered_update    26,624
+       fortuna_keyed_metered_write     26,624
        fortuna_keyed_input              5,120
        fortuna_keyed_output               256
-       fortuna_log                    270,336
+       fortuna_log                    283,648
        fortuna_convert                    512
        fortuna_entry_at                   256
        fortuna_health_new                 256

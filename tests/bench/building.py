@@ -70,13 +70,25 @@ def built_on(crate):
     return {name: [other for other in below[name] if other in needed] for name in below if name in needed}
 
 
+def stands(crate):
+    """Whether what rt built of a library is newer than its files. rt says nothing of one that has not changed, and one that
+    another checkout built it takes over, with its times of writing."""
+    folder = ROOT / "crates" / crate
+    stamp = folder / "out" / "rlib" / "stamp"
+    files = [file for part in ("src", "specs", "proofs") for file in (folder / part).rglob("*")]
+    return stamp.is_file() and all(file.stat().st_mtime <= stamp.stat().st_ctime for file in files)
+
+
 def progress(crates, said):
-    """What rt is proving. It goes from the lowest crate up, names each function that it proves, and each crate at its end;
-    of a crate that has not changed it says nothing."""
+    """What rt is proving. It goes from the lowest crate up, and names each function that it proves, and each crate at its
+    end."""
     done = set()
     for ended, begun in re.findall(r"^(?:crate (\w+): modules|fn (\w+)::)", said, re.MULTILINE):
         done |= {ended} & crates.keys()
         done.update(*(built_on(name).keys() - {name} for name in {ended, begun} & crates.keys()))
+    for name, below in crates.items():
+        if done.issuperset(below) and stands(name):
+            done.add(name)
     now = [name for name, below in crates.items() if name not in done and done.issuperset(below)][:1]
     return f"proving {', '.join(now) or 'no more'}; {len(crates.keys() - done)} of {len(crates)} crates left"
 

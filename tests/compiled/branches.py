@@ -34,6 +34,7 @@ POLYNOMIAL = "0x1b"
 POOL_27 = {("keyed::scheduler::output_pool", "mov eax,0x1b")}  # no polynomial: the pool that a step empties
 TABLE = 4 * 256  # bytes of a table of words
 BLOCK_MOVES = {"memcpy", "memmove", "memset"}
+VECTOR_SHIFTS = {f"ps{way}{size}" for way in ("ll", "rl", "ra") for size in "wdq"}
 
 
 def fault(account, step, leaves, named):
@@ -100,7 +101,9 @@ def copies(found, named):
         f"{name}: {step.text}: the doubling, in a function that is not looked at"
         for name, body in others.items()
         for step in body
-        if POLYNOMIAL in step.operands and step.name not in SHIFTS and (name, step.text) not in POOL_27
+        if POLYNOMIAL in step.operands
+        and step.name not in SHIFTS | VECTOR_SHIFTS
+        and (name, step.text) not in POOL_27
     ]
     return doublings + [
         f"{name}: look-ups in four tables of words, in a function that is not looked at"

@@ -55,6 +55,29 @@
     ret
 
 # passes
+"a counter beside a word that is turned by a shift of two":
+    xor eax, eax
+1:  shld edi, edi, 0x15
+    add rax, 4
+    cmp rax, 0x3c
+    jb 1b
+    ret
+
+# jb: is decided by data
+"a counter that is shifted in from data":
+    xor eax, eax
+1:  shld eax, edi, 0x15
+    cmp eax, 0x3c
+    jb 1b
+    ret
+
+# passes
+"vectors shifted by 27":
+    psllq xmm2, 0x1b
+    psrld xmm1, 0x1b
+    ret
+
+# passes
 "a counter beside a bit that is turned":
     xor ecx, ecx
     xor edx, edx

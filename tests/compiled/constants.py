@@ -8,7 +8,7 @@ from dataclasses import dataclass
 SIZES = {"BYTE": 1, "WORD": 2, "DWORD": 4, "QWORD": 8, "XMMWORD": 16}
 MOVES = {"mov", "movabs", "movzx", "movsx", "movsxd"}
 SUMS = {"add", "sub", "and", "or", "xor", "imul", "neg"}
-SHIFTS = {"shl", "shr", "sar"}
+SHIFTS = {"shl", "shr", "sar", "shld", "shrd"}
 TURNS = {"rol", "ror", "not", "bswap"}
 BITS = {"bt", "btc", "btr", "bts"}
 NOTHING = {"nop", "endbr64"}
