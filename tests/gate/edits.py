@@ -1,7 +1,7 @@
 #!/usr/bin/env python3
 """Wrong programs and wrong definitions that the prover must refuse.
 
-    tests/gate/edits.py [CRATE...]      the edits crates/NAME/must-fail/quick/*.edit, of all crates or of those named
+    tests/gate/edits.py [CRATE...]      the edits crates/NAME/quick/*.edit, of all crates or of those named
     tests/gate/edits.py CRATE/LABEL     an edit of either kind
     tests/gate/edits.py --all ..        also crates/NAME/must-fail/*.edit, which rt ci tries
     tests/gate/edits.py --said-by LOG   those that rt ci tries, of all crates, by what a run of it wrote of them
@@ -128,13 +128,15 @@ def replace(folder, path, old, new):
 
 
 def edits_of(crate, quick=True, direct=False):
-    """The edits of a crate, in the order of their labels. A file there that neither rt nor this program would try is an error."""
-    folder = folder_of(crate) / "must-fail"
-    for file in folder.rglob("*"):
-        if file.is_file() and not (file.suffix == ".edit" and file.parent in (folder, folder / "quick")):
-            raise Failure(f"{file.relative_to(ROOT)} is no edit: nobody tries it")
-    files = sorted((folder / "quick").glob("*.edit")) if quick else []
-    files += sorted(folder.glob("*.edit")) if direct else []
+    """The edits of a crate, in the order of their labels. A file there that neither rt nor this program would try is an error.
+    The quick ones stand beside must-fail/, where rt ci would call them bad."""
+    folders = folder_of(crate) / "quick", folder_of(crate) / "must-fail"
+    for folder in folders:
+        for file in folder.rglob("*"):
+            if file.suffix != ".edit" or file.parent != folder:
+                raise Failure(f"{file.relative_to(ROOT)} is no edit: nobody tries it")
+    files = sorted(folders[0].glob("*.edit")) if quick else []
+    files += sorted(folders[1].glob("*.edit")) if direct else []
     return [Edit(crate, file.stem, file.read_text()) for file in files]
 
 
