@@ -294,17 +294,18 @@ class Trial:
         """Where the prover refused a crate, and at what, once its proof files name what the edited code has; None where it is
         proved. Bad where that shows nothing."""
         lane = self.lanes.pop()
+        folder = lane / "crates" / edit.crate
         try:
             if not lane.is_dir():
                 self.copy_to(lane)
-            folder = lane / "crates" / edit.crate
+            edit.apply(folder)
+            return self.looked(edit, folder, kept)
+        finally:
+            # edits of the crates above are looked at in the same copy
             for part in PARTS:
                 shutil.rmtree(folder / part, ignore_errors=True)
                 if (folder_of(edit.crate) / part).is_dir():
                     shutil.copytree(folder_of(edit.crate) / part, folder / part)
-            edit.apply(folder)
-            return self.looked(edit, folder, kept)
-        finally:
             self.lanes.append(lane)
 
     def looked(self, edit, folder, kept):
