@@ -350,7 +350,9 @@ def renamed(proofs, said):
     """Puts names that the edited code has into proof files, in place of those that are gone; whether there were any."""
     changes = {}
     for function, old, nearest in NO_FIELD.findall(said):
-        new = re.findall(r"\.([^\s,]+)", nearest)
+        named = "".join(file.read_text() for file in (proofs / function).glob("*.antt"))
+        # a field that the proof files name already is another fact's
+        new = [name for name in re.findall(r"\.([^\s,]+)", nearest) if not re.search(rf"\.{re.escape(name)}(?![\w-])", named)]
         if len(new) == 1 or new and difflib.get_close_matches(old, new, 1):
             changes.setdefault(function, {})[old] = difflib.get_close_matches(old, new, 1, 0)[0]
     asked = {old: re.findall(r"`([^`]+)`", names) for olds, names in ASKED.findall(said) for old in re.findall(r"`([^`]+)`", olds)}
