@@ -1,22 +1,17 @@
 #!/usr/bin/env python3
 """Wrong programs and wrong definitions that the prover must refuse.
 
-    tests/gate/edits.py [CRATE...]      the edits crates/NAME/quick/*.edit, of all crates or of those named
-    tests/gate/edits.py CRATE/LABEL     an edit of either kind
-    tests/gate/edits.py --all ..        also crates/NAME/must-fail/*.edit, which rt ci tries
-    tests/gate/edits.py --said-by LOG   those that rt ci tries, of all crates, by what a run of it wrote of them
-    tests/gate/edits.py --fit           whether all edits, of either kind, fit the crates
-    tests/gate/edits.py --sample N      quick edits for some N minutes, in an order that the commit gives, of those that
-                                        tests/gate/refused.txt lists: that were refused once as the crates are now
+    tests/gate/edits.py [CRATE...]      the edits crates/NAME/must-fail/*.edit, of all crates or of those named
+    tests/gate/edits.py CRATE/LABEL     an edit
+    tests/gate/edits.py --said-by LOG   the edits of all crates, by what a run of rt ci wrote of them
+    tests/gate/edits.py --fit           whether all edits fit the crates, and tests/gate/refused.txt lists them
     tests/gate/edits.py --self-test     whether edits that show nothing are told from those that do
 
-rt ci tries each edit that stands right in must-fail/ over what it proved of the crate, and so does rt must-fail, which takes
-what has not changed since from earlier runs on this machine. An edit takes a processor some 10 to 60 seconds, so that the 801
-of quick/ are no part of each gate: it tries some of them, and all fit. rt counts an edit as refused where anything is not
-proved, and so also one that only renames a goal: Rattle names goals by the code's words, a proof file answers them by their
-names, and the goal with the new name then has no answer. Where what rt says may be no more than that, a second look here
-checks the edited crate with the new names put into its proof files, and goes by what the prover says then. docs/PROOFS.md says
-why a refusal is one.
+rt ci tries each edit over what it proved of the crate, and so does rt must-fail, which takes what has not changed since from
+earlier runs on this machine. rt counts an edit as refused where anything is not proved, and so also one that only renames a
+goal: Rattle names goals by the code's words, a proof file answers them by their names, and the goal with the new name then
+has no answer. Where what rt says may be no more than that, a second look here checks the edited crate with the new names put
+into its proof files, and goes by what the prover says then. docs/PROOFS.md says why a refusal is one.
 
 An edit has the form of rt's: lines 'file:', 'old:' and 'new:'. Its first line says what is wrong with the crate that it
 makes. An edit is bad where that line is missing, where it does not fit the files, where it is one of a proof, where it does
@@ -35,16 +30,14 @@ import subprocess
 import sys
 import tempfile
 import threading
-import time
 from concurrent.futures import ThreadPoolExecutor, as_completed
 from pathlib import Path
 
 from crates import ROOT, Failure, crates, folder_of, with_below
 
 PARTS = ("src", "specs", "proofs")
-KNOWN = ROOT / "tests/gate/refused.txt"
+LISTED = ROOT / "tests/gate/refused.txt"
 LIMIT = 7200  # seconds after which a run of rt counts as hung
-BATCH = 8  # edits of a sample that one run of rt tries
 MARKS = ("file:", "old:", "new:")
 
 # What rt says of an edit; more lines may follow.
@@ -127,28 +120,19 @@ def replace(folder, path, old, new):
     file.write_text(text.replace(old, new))
 
 
-def edits_of(crate, quick=True, direct=False):
-    """The edits of a crate, in the order of their labels. A file there that neither rt nor this program would try is an error.
-    The quick ones stand beside must-fail/, where rt ci would call them bad."""
-    folders = folder_of(crate) / "quick", folder_of(crate) / "must-fail"
-    for folder in folders:
-        for file in folder.rglob("*"):
-            if file.suffix != ".edit" or file.parent != folder:
-                raise Failure(f"{file.relative_to(ROOT)} is no edit: nobody tries it")
-    files = sorted(folders[0].glob("*.edit")) if quick else []
-    files += sorted(folders[1].glob("*.edit")) if direct else []
-    return [Edit(crate, file.stem, file.read_text()) for file in files]
-
-
-def refused_once():
-    """The quick edits that were refused once, as CRATE/LABEL."""
-    return {line.split()[0] for line in KNOWN.read_text().splitlines() if line and not line.startswith("#")}
+def edits_of(crate):
+    """The edits of a crate, in the order of their labels. A file there that rt would not try is an error."""
+    folder = folder_of(crate) / "must-fail"
+    for file in folder.rglob("*"):
+        if file.is_file() and not (file.suffix == ".edit" and file.parent == folder):
+            raise Failure(f"{file.relative_to(ROOT)} is no edit that rt tries: those stand right in must-fail/")
+    return [Edit(crate, file.stem, file.read_text()) for file in sorted(folder.glob("*.edit"))]
 
 
 def fit():
-    """Whether all edits fit; how many do not."""
+    """Whether all edits fit, and where each is refused is listed; how many times that is not so."""
     failed = 0
-    edits = [edit for crate in crates() for edit in edits_of(crate, True, True)]
+    edits = [edit for crate in crates() for edit in edits_of(crate)]
     for edit in edits:
         try:
             edit.fits()
@@ -156,6 +140,12 @@ def fit():
             print(f"edits: {edit}: BAD EDIT: {why}")
             failed += 1
     print(f"edits: {len(edits) - failed} of {len(edits)} fit the crates")
+    names = [str(edit) for edit in edits]
+    listed = [line.split()[0] for line in LISTED.read_text().splitlines() if line and not line.startswith("#")]
+    for name in sorted({*names, *listed}):
+        if names.count(name) != 1 or listed.count(name) != 1:
+            print(f"edits: {name}: lines in tests/gate/refused.txt: {listed.count(name)}, edits of that name: {names.count(name)}")
+            failed += 1
     return failed
 
 
@@ -394,14 +384,14 @@ def run(trial, edits, said, report):
             pool.shutdown(cancel_futures=True)
 
 
-def chosen(names, quick=True, direct=False):
+def chosen(names):
     """The edits that are asked for, by their crates: names are those of crates, or CRATE/LABEL."""
     edits = {}
     for name in names or crates():
         crate, slash, label = name.partition("/")
         if crate not in crates():
             raise Failure(f"crates.txt has no crate {crate}")
-        found = [edit for edit in edits_of(crate, quick or slash, direct or slash) if not slash or edit.label == label]
+        found = [edit for edit in edits_of(crate) if not slash or edit.label == label]
         if slash and not found:
             raise Failure(f"{crate} has no edit {label}")
         if found:
@@ -409,71 +399,31 @@ def chosen(names, quick=True, direct=False):
     return edits
 
 
-class Report:
-    """What edits came to, told as they are done."""
-
-    def __init__(self, total):
-        self.left = total
-        self.tried = 0
-        self.failed = []
-        self.untold = []  # of which rt or the prover could not tell
-
-    def __call__(self, edit, text, refused):
-        self.left -= 1
-        self.tried += 1
-        print(f"edits: {edit}: {text}; {self.left} left", flush=True)
-        if not refused:
-            self.failed.append(edit)
-        if text.startswith(("NOT TRIED", "BAD EDIT: the prover could not tell")):
-            self.untold.append(edit)
-
-    def end(self):
-        """How many were not refused as they must be."""
-        print(f"edits: {self.tried - len(self.failed)} of {self.tried} refused, as they must be")
-        for edit in self.failed:
-            print(f"edits: FAILED: {edit}")
-        return len(self.failed)
-
-
 def try_edits(trial, edits, said):
     """Tries edits, given by their crates; how many were not refused as they must be. said: what a run of rt said already."""
-    report = Report(sum(map(len, edits.values())))
-    if not report.left:
+    total = left = sum(map(len, edits.values()))
+    if not total:
         raise Failure("there is no edit to try")
+    failed = []
+
+    def report(edit, text, refused):
+        nonlocal left
+        left -= 1
+        print(f"edits: {edit}: {text}; {left} left", flush=True)
+        if not refused:
+            failed.append(edit)
+
     for crate in [name for name in crates() if name in edits]:
         try:
             run(trial, edits[crate], said if said is not None else trial.said(crate, edits[crate]), report)
         except (Failure, OSError) as why:
             print(f"edits: {crate}: NOT TRIED: {why}", flush=True)
-            report.left -= len(edits[crate])
-            report.tried += len(edits[crate])
-            report.failed += edits[crate]
-    return report.end()
-
-
-def sampled(trial, edits, minutes):
-    """Tries edits for some minutes, a few of a crate at a time; how many were not refused as they must be. All were refused once,
-    so that one of which the prover can't tell, where the machine is busy, counts for nothing."""
-    commit = subprocess.run(["git", "rev-parse", "HEAD"], cwd=ROOT, capture_output=True, text=True).stdout
-
-    def place(text):
-        return hashlib.sha256(f"{commit} {text}".encode()).digest()
-
-    until = time.monotonic() + 60 * minutes
-    report = Report(sum(map(len, edits.values())))
-    batches = []
-    for crate, found in edits.items():
-        found = sorted(found, key=lambda edit: place(edit))
-        batches += [(crate, found[at : at + BATCH]) for at in range(0, len(found), BATCH)]
-    for crate, batch in sorted(batches, key=lambda batch: place(batch[1][0])):
-        if time.monotonic() > until:
-            break
-        try:
-            run(trial, batch, trial.said(crate, batch), report)
-        except (Failure, OSError) as why:
-            print(f"edits: {crate}: NOT TRIED: {why}", flush=True)
-    report.failed = [edit for edit in report.failed if edit not in report.untold]
-    return report.end()
+            left -= len(edits[crate])
+            failed += edits[crate]
+    print(f"edits: {total - len(failed)} of {total} refused, as they must be")
+    for edit in failed:
+        print(f"edits: FAILED: {edit}")
+    return len(failed)
 
 
 # ---- the self-test, on a small crate
@@ -553,10 +503,8 @@ def arguments():
     parser = argparse.ArgumentParser(description=__doc__, formatter_class=argparse.RawDescriptionHelpFormatter)
     parser.add_argument("names", nargs="*", metavar="CRATE[/LABEL]", help="a crate, or one edit (default: all crates)")
     parser.add_argument("--jobs", type=int, default=os.cpu_count() or 1, help="how many at a time (default: the processors)")
-    parser.add_argument("--all", action="store_true", help="also the edits that rt ci tries")
-    parser.add_argument("--said-by", metavar="LOG", help="the edits that rt ci tries, by what it wrote into this file")
-    parser.add_argument("--fit", action="store_true", help="see that all edits fit the crates")
-    parser.add_argument("--sample", type=float, metavar="N", help="some quick edits, for N minutes")
+    parser.add_argument("--said-by", metavar="LOG", help="go by what rt ci wrote into this file")
+    parser.add_argument("--fit", action="store_true", help="see that all edits fit the crates and are listed")
     parser.add_argument("--self-test", action="store_true", help="see that edits that show nothing are told")
     parser.error = wrong_usage
     options = parser.parse_args()
@@ -594,11 +542,7 @@ def main():
     def work(room):
         if options.self_test:
             return self_test(Trial(room, options.jobs, [CASES_OF]))
-        if options.sample:
-            known = refused_once()
-            edits = {crate: [edit for edit in found if str(edit) in known] for crate, found in chosen(options.names).items()}
-            return sampled(Trial(room, options.jobs, edits), edits, options.sample)
-        edits = chosen(options.names, not options.said_by, options.all or options.said_by)
+        edits = chosen(options.names)
         said = said_of_edits(Path(options.said_by).read_text(errors="replace")) if options.said_by else None
         return try_edits(Trial(room, options.jobs, edits), edits, said)
 
