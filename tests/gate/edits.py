@@ -186,9 +186,9 @@ def place_of(place, text):
         raise Bad(f"a definition is not well formed, which shows nothing (first at {place})")
     if place.startswith("proofs/") and MISFIT.search(text):
         raise Bad(f"a proof file does not fit the code, which shows nothing (first at {place})")
-    # the name of a fact ends its line; that of an answer or a lemma begins its error
-    names = re.findall(r"`[^`]+`", text)
-    return f"{place} {names[0 if text.startswith('`') else -1]}" if names else place
+    # the name of an answer or a lemma begins its error; that of a fact stands in brackets, or ends its line
+    names = re.findall(r"^`[^`]+`", text) or re.findall(r"\((`[^`]+`)\)", text) or re.findall(r"`[^`]+`", text)[-1:]
+    return f"{place} {names[0]}" if names else place
 
 
 def by_rt(text):
