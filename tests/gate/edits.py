@@ -210,7 +210,9 @@ def by_rt(text):
     what = text.removeprefix(REFUSED).lstrip(": ")
     if what.startswith(("(only because a proof file names", "note: ")):
         return ""
-    return place_of(*first_fault(what))
+    place, fault = first_fault(what)
+    # rt gives the first line of an error alone, and of a fact or a goal that is not there this need not say so
+    return "" if re.match(r"(?:`[^`]+`: )?(?:record|module) `", fault) else place_of(place, fault)
 
 
 # ---- rt, over copies of the crates
