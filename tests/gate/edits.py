@@ -50,6 +50,7 @@ FOLLOWS = "was not admitted|was rejected"
 # What an error of a proof file says where the file was written for other code: it names a goal, a value or a place in the code
 # that is not there.
 MISFIT = re.compile(r"has no field|is not in scope|has no `|has no .* that can be named")
+FUNCTION = re.compile(r"\s*(?:pub(?:\(crate\))? )?(?:unsafe )?(?:extern \"C\" )?fn (\w+)")
 NO_GOAL = re.compile(r"^(?:\./)?proofs/(\S+)/\w+\.antt:\S+ error: .*module `\S+` has no `([^`]+)`", re.M)
 ASKED = re.compile(r"^help: `Goals` has no (.*?); rattle asks for (.*?)(?: and \d+ more)?(?:;|$)", re.M)
 NO_FIELD = re.compile(r"^(?:\./)?proofs/(\S+)/\w+\.antt:\S+ error: .*has no field `([^`]+)` \(nearest: ([^)]*)\)", re.M)
@@ -191,7 +192,17 @@ def place_of(place, text):
     return f"{place} {names[0]}" if names else place
 
 
-def by_rt(text):
+def is_answered(crate, place):
+    """Whether proof files answer goals of the function at a place of src/, which may be its first line or one within it."""
+    path, line = place.split(":")[:2]
+    lines = (folder_of(crate) / path).read_text().splitlines()
+    at = int(line) - 1
+    within = lines[at:] if lines[at].startswith("#[") else reversed(lines[: at + 1])
+    names = [found[1] for found in map(FUNCTION.match, within) if found]
+    return not names or any(folder.name == names[0] for folder in (folder_of(crate) / "proofs").rglob("*") if folder.is_dir())
+
+
+def by_rt(crate, text):
     """Where the prover refused a crate, by what rt says of an edit; '' where that must be looked at again, None where it is not
     refused. Bad where it shows nothing."""
     if text.startswith("NOT REFUSED"):
@@ -208,9 +219,12 @@ def by_rt(text):
     if not text.startswith(REFUSED):
         raise Failure(f"rt said: {text}")
     what = text.removeprefix(REFUSED).lstrip(": ")
-    if what.startswith(("(only because a proof file names", "note: ")):
+    if what.startswith("(only because a proof file names"):
         return ""
     place, fault = first_fault(what)
+    # a goal that no proof was found of may have lost its answer by a new name, where the function has answers
+    if place and place.startswith("src/") and is_answered(crate, place):
+        return ""
     # rt gives the first line of an error alone, and of a fact or a goal that is not there this need not say so
     return "" if re.match(r"(?:`[^`]+`: )?(?:record|module) `", fault) else place_of(place, fault)
 
@@ -326,7 +340,7 @@ class Trial:
         """What is to be said of an edit, and whether it was refused as it must be."""
         try:
             edit.fits()
-            place = by_rt(text)
+            place = by_rt(edit.crate, text)
             if place == "":
                 place = self.look(edit, kept())
         except Bad as why:
