@@ -24,52 +24,52 @@
    examples/c/station.c does this with a ring buffer. Calls on different states may run at the same time.
 
    Stack. On x86-64 a call needs at most this many bytes of stack, the caller's copy of what it returns included
-   (tests/compiled/footprint.py holds the library to it). The bounds were set by what was measured with an older kit,
-   rattle-kit-5b-plain; docs/BENCHMARKS.md has the figures:
+   (tests/compiled/footprint.py holds the library to it, and prints what was measured). The bounds are some 8 % above
+   what was measured with rattle-kit-13f:
 
-       fortuna_sha256                   2,048
-       fortuna_sha_d256                 2,560
-       fortuna_aes256_expand            1,280
-       fortuna_aes256_block             5,120
-       fortuna_aes256_bytewise_expand   1,024
-       fortuna_aes256_bytewise_block    1,024
+       fortuna_sha256                   1,792
+       fortuna_sha_d256                 2,304
+       fortuna_aes256_expand            1,024
+       fortuna_aes256_block               512
+       fortuna_aes256_bytewise_expand     512
+       fortuna_aes256_bytewise_block      768
        fortuna_generator_new              256
-       fortuna_generator_reseed         3,072
-       fortuna_generator_blocks         5,632
-       fortuna_generator_request        5,632
+       fortuna_generator_reseed         2,816
+       fortuna_generator_blocks         1,280
+       fortuna_generator_request        1,280
        fortuna_new                     12,288
-       fortuna_event                    9,728
-       fortuna_request                 51,200
-       fortuna_update                  55,296
-       fortuna_write                   51,200
-       fortuna_random_below            65,536
-       fortuna_shuffle                 75,776
-       fortuna_metered_event           13,312
-       fortuna_metered_request         48,128
-       fortuna_metered_update          58,368
-       fortuna_metered_write           48,128
-       fortuna_metered_random_below    68,608
-       fortuna_metered_shuffle         82,944
+       fortuna_event                    2,048
+       fortuna_request                 11,776
+       fortuna_update                  15,616
+       fortuna_write                   11,776
+       fortuna_random_below            37,632
+       fortuna_shuffle                 45,312
+       fortuna_metered_event            5,888
+       fortuna_metered_request          7,936
+       fortuna_metered_update          19,200
+       fortuna_metered_write            7,936
+       fortuna_metered_random_below    41,216
+       fortuna_metered_shuffle         49,152
        fortuna_keyed_new               12,288
-       fortuna_keyed_event             33,792
-       fortuna_keyed_request           23,552
-       fortuna_keyed_update            23,552
-       fortuna_keyed_write             23,552
-       fortuna_keyed_metered_event     44,032
-       fortuna_keyed_metered_request   26,624
-       fortuna_keyed_metered_update    26,624
-       fortuna_keyed_metered_write     26,624
-       fortuna_keyed_input              5,120
+       fortuna_keyed_event             14,592
+       fortuna_keyed_request           12,288
+       fortuna_keyed_update            14,080
+       fortuna_keyed_write             12,288
+       fortuna_keyed_metered_event     18,176
+       fortuna_keyed_metered_request   16,128
+       fortuna_keyed_metered_update    17,664
+       fortuna_keyed_metered_write     15,872
+       fortuna_keyed_input                768
        fortuna_keyed_output               256
-       fortuna_log                    283,648
+       fortuna_log                    260,864
        fortuna_convert                    512
        fortuna_entry_at                   256
        fortuna_health_new                 256
        fortuna_health_test                256
        fortuna_ctr_drbg_new               256
-       fortuna_ctr_drbg_instantiate     6,144
-       fortuna_ctr_drbg_reseed          6,144
-       fortuna_ctr_drbg_generate        6,144
+       fortuna_ctr_drbg_instantiate     1,280
+       fortuna_ctr_drbg_reseed          1,280
+       fortuna_ctr_drbg_generate        1,024
 
    The library wipes no memory. After a call copies of the state's key K are left on the stack below the caller, also
    of the K that the next call starts from. A call of CTR_DRBG leaves copies of its Key and its V there, also of those
@@ -82,7 +82,7 @@
    The cipher that goes byte by byte reads the S-box for blocks too and nothing else: a smaller leak, not none. It is
    there for firmware that enciphers under keys of its own where such traces matter (fortuna_aes256_bytewise_block).
    In CTR_DRBG no branch goes by Key, by V or by what an input holds: only by lengths and by the reseed counter. A step
-   of V goes through all its 16 bytes, however far the carry gets. The keyed scheduler's event enciphers under the
+   of V is one sum of 128 bits, however far the carry gets. The keyed scheduler's event enciphers under the
    scheduler key by the same tables, and works on the pool that comes of it: a trace may tell the pool too.
 
    Numbers returned: FORTUNA_DONE, or the number of a refusal. Where more than one applies it is the first in the order
@@ -204,8 +204,8 @@ typedef struct {
 /* The key expansion (FIPS 197, 5.2) of the 32 bytes at key. */
 fortuna_aes256_key fortuna_aes256_expand(const uint8_t key[32]);
 
-/* Enciphers the 16 bytes at block in place (FIPS 197, 5.1), by tables that each call builds on its stack. Any 60 words
-   may stand in the key. */
+/* Enciphers the 16 bytes at block in place (FIPS 197, 5.1), by tables that stand in the library's constants. Any 60
+   words may stand in the key. */
 void fortuna_aes256_block(fortuna_aes256_key key, uint8_t block[16]);
 
 /* An expanded key for the cipher that goes byte by byte: the same 60 words, 4 bytes each, in FIPS 197's order. */

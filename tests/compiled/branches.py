@@ -31,7 +31,7 @@ KEYED = [
     "hash::block::compress",
 ]
 POLYNOMIAL = "0x1b"
-POOL_27 = {("keyed::scheduler::output_pool", "mov eax,0x1b")}  # no polynomial: the pool that a step empties
+NO_POLYNOMIAL = {("draws::draw::make_tries", "mov ecx,0x1b")}  # the number of bits that a draw below 2^27 keeps
 TABLE = 4 * 256  # bytes of a table of words
 BLOCK_MOVES = {"memcpy", "memmove", "memset"}
 VECTOR_SHIFTS = {f"ps{way}{size}" for way in ("ll", "rl", "ra") for size in "wdq"}
@@ -103,7 +103,7 @@ def copies(found, named):
         for step in body
         if POLYNOMIAL in step.operands
         and step.name not in SHIFTS | VECTOR_SHIFTS
-        and (name, step.text) not in POOL_27
+        and (name, step.text) not in NO_POLYNOMIAL
     ]
     return doublings + [
         f"{name}: look-ups in four tables of words, in a function that is not looked at"

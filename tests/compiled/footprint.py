@@ -15,7 +15,7 @@ ROOT = Path(__file__).resolve().parents[2]
 HEADER = ROOT / "include" / "fortuna.h"
 README = ROOT / "README.md"
 ROW = re.compile(r"^ +(fortuna_\w+) +([\d,]+)$", re.MULTILINE)
-CALLED = {"memcpy", "memset"}
+CALLED = {"memcpy", "memmove", "memset"}
 RELATIVE = {"R_X86_64_PC32", "R_X86_64_PLT32"}  # an address as a distance from the instruction
 
 

@@ -10,7 +10,7 @@ from pathlib import Path
 
 from aes256 import S_BOX, mix_column
 
-CONSTANT = re.compile(r"^const TABLES: \[u32; 1024\] = \[$(.*?)^\];$", re.M | re.S)
+CONSTANT = re.compile(r"^static TABLES: \[u32; 1024\] = \[$(.*?)^\];$", re.M | re.S)
 
 
 def word(row, x):
@@ -25,7 +25,7 @@ TABLES = [[word(row, x) for x in range(256)] for row in range(4)]
 
 
 def stored(source):
-    """The words in a source, one after the other; None where it has no such constant."""
+    """The words in a source, one after the other; None where it has no such static."""
     found = CONSTANT.search(source)
     return found and [int(number, 0) for number in found[1].replace(",", " ").split()]
 
@@ -33,7 +33,7 @@ def stored(source):
 def difference(found):
     """How words differ from the tables; None where they don't."""
     if found is None:
-        return "no constant TABLES of 1024 words"
+        return "no static TABLES of 1024 words"
     expected = [word for table in TABLES for word in table]
     if len(found) != len(expected):
         return f"expected {len(expected)} words, found {len(found)}"

@@ -2,7 +2,7 @@
 -- Assumes nothing.
 use mathlib.Core.Path.{◌≡◌, refl, sym, ap, ◌∙◌}
 use mathlib.Core.List.{List, [], ◌∷◌, ◌++◌, append_assoc, append-nil}
-use Prim.Native.Nat.{ℕ, zero, suc, ◌+◌, ◌-◌, ◌≤◌, ◌<◌, min}
+use Prim.Native.Nat.{ℕ, zero, suc, ◌+◌, ◌-◌, ◌≤◌, min}
 use native.Mathlib.Omega.{arith}
 use lib.Dec.{leb}
 use lib.ListN.{length, take, drop, length-append, length-take, length-drop, length-replicate, drop_of_length-le}
@@ -138,21 +138,21 @@ module _ (buffer : List ℕ) (held : ℕ) (more rest : List ℕ) where
 -- ---- the code that appends
 
 module _ (buffer : List ℕ) (held : ℕ) (more : List ℕ) where
-  -- the part from `held` on, written over and put back
-  pub appended-part : (part : List ℕ) → part ≡ overwrite (take (length buffer - held) (drop held buffer)) more
-      → take held buffer ++ (part ++ drop (length buffer - held) (drop held buffer)) ≡ appended buffer held more
-  unfolding appended
-  appended-part part e =
-      let none : drop (length buffer - held) (drop held buffer) ≡ [] = drop_of_length-le (drop held buffer) {i = length buffer - held} (rw length-drop (omega arith)) in
-      rw (none, append-nil, e, part_end)
+  module _ (h : ℕ) (is : h ≡ min held (length buffer)) where
+    appended-free : appended buffer h more ≡ appended buffer held more
+    appended-free =
+        by-test (leb held (length buffer)) _
+        (λ t. let k : h ≡ held = omega (arith, leb-true held (length buffer) t) in rw k)
+        (λ t.
+        let full : length buffer ≤ held = omega (arith, leb-false held (length buffer) t) in
+        appended-full buffer h more (omega arith) ∙ sym (appended-full buffer held more full))
 
-  pub held_fits : length more < length buffer - held → held + length more ≡ held_after buffer held more
-  unfolding held_after
-  held_fits h = omega arith
-
-  pub held_cut : length buffer - held ≤ length more → length buffer ≡ held_after buffer held more
-  unfolding held_after
-  held_cut h = omega arith
+    -- the part from h on, written over and put back
+    pub appended-part : (part : List ℕ) → part ≡ overwrite (take (length buffer - h) (drop h buffer)) more
+        → take h buffer ++ (part ++ drop (length buffer - h) (drop h buffer)) ≡ appended buffer held more
+    appended-part part e =
+        let none : drop (length buffer - h) (drop h buffer) ≡ [] = drop_of_length-le (drop h buffer) {i = length buffer - h} (rw length-drop (omega arith)) in
+        rw (none, append-nil, e, part_end) (unfold appended in appended-free)
 
 -- ---- the first n of a buffer of zeros, lent, and what came back in their place
 

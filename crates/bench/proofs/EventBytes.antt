@@ -3,6 +3,7 @@
 use mathlib.Core.Path.{◌≡◌, refl, sym, ap, ◌∙◌}
 use mathlib.Core.Bool.{false, cond}
 use mathlib.Core.List.{List, [], ◌∷◌}
+use Rattle.std.specs.Prelude.{Option, Some, None}
 use Prim.Native.Nat.{ℕ, ◌+◌, ◌*◌, ◌≤◌, ◌<◌}
 use native.Mathlib.Omega.{arith}
 use lib.Dec.{eqb, leb}
@@ -12,16 +13,16 @@ use Rattle.laws.proofs.Cases.{by-test, split}
 use Rattle.bench.specs.Frames.{big_endian16, event_frame, request_frame, update_frame, write_frame, wide_event_frame, frame_of}
 use Rattle.bench.proofs.Frames.{frame-none}
 use Rattle.bench.specs.declared.frame.Frame.{Frame}
-use Rattle.bench.specs.declared.frame.Frame.TheVariants.{Event, Request, Update, Write, WideEvent, Invalid}
+use Rattle.bench.specs.declared.frame.Frame.TheVariants.{Event, Request, Update, Write, WideEvent}
 
 -- 1 for frame 01, 5 for frame 05
-abbrev pub event_kind : Frame → ℕ
-event_kind (Event source pool) = 1
-event_kind (Request clock count) = 0
-event_kind (Update clock) = 0
-event_kind (Write clock) = 0
-event_kind (WideEvent source pool) = 5
-event_kind Invalid = 0
+abbrev pub event_kind : Option Frame → ℕ
+event_kind (Some (Event source pool)) = 1
+event_kind (Some (Request clock count)) = 0
+event_kind (Some (Update clock)) = 0
+event_kind (Some (Write clock)) = 0
+event_kind (Some (WideEvent source pool)) = 5
+event_kind None = 0
 
 -- the bytes of frame 01
 pub record EventBytes (bytes : List ℕ) (source pool : ℕ) : Type 0 where
@@ -40,7 +41,7 @@ pub record WideBytes (bytes : List ℕ) (source pool : ℕ) : Type 0 where
   pub pool-is : pool ≡ get_or rest 2 0
 
 -- a frame that is no event frame of kind k
-abbrev Other : ℕ → Frame → Type 0
+abbrev Other : ℕ → Option Frame → Type 0
 Other k f = event_kind f ≡ k → ⊥
 
 request-other : (k : ℕ) (bytes : List ℕ) → 0 < k → Other k (request_frame bytes)
@@ -83,28 +84,28 @@ not_wide kind fields n =
     (λ _. split (Other 5) (eqb kind 4) (λ _. write-other 5 (kind ∷ fields) (omega arith)) (λ _ e. omega arith)))))
 
 -- frame 01, and frame 05, by what comes after the first byte
-pub frame-one : (fields : List ℕ) → frame_of (1 ∷ fields) ≡ cond (leb 3 (length (1 ∷ fields))) (Event (get_or fields 0 0) (get_or fields 1 0)) Invalid
+pub frame-one : (fields : List ℕ) → frame_of (1 ∷ fields) ≡ cond (leb 3 (length (1 ∷ fields))) (Some (Event (get_or fields 0 0) (get_or fields 1 0))) None
 unfolding frame_of event_frame
 frame-one fields = refl
 
 pub frame-five : (fields : List ℕ)
-    → frame_of (5 ∷ fields) ≡ cond (leb 4 (length (5 ∷ fields))) (WideEvent (get_or fields 0 0 * 256 + get_or fields 1 0) (get_or fields 2 0)) Invalid
+    → frame_of (5 ∷ fields) ≡ cond (leb 4 (length (5 ∷ fields))) (Some (WideEvent (get_or fields 0 0 * 256 + get_or fields 1 0) (get_or fields 2 0))) None
 unfolding frame_of wide_event_frame big_endian16
 frame-five fields = refl
 
-event-parts : (s p s' p' : ℕ) → Event s p ≡ Event s' p' → (s ≡ s') × (p ≡ p')
+event-parts : (s p s' p' : ℕ) → ◌≡◌ {A = Option Frame} (Some (Event s p)) (Some (Event s' p')) → (s ≡ s') × (p ≡ p')
 event-parts s p s' p' h = (cc, cc)
 
-wide-parts : (s p s' p' : ℕ) → WideEvent s p ≡ WideEvent s' p' → (s ≡ s') × (p ≡ p')
+wide-parts : (s p s' p' : ℕ) → ◌≡◌ {A = Option Frame} (Some (WideEvent s p)) (Some (WideEvent s' p')) → (s ≡ s') × (p ≡ p')
 wide-parts s p s' p' h = (cc, cc)
 
-pub event-bytes : (bytes : List ℕ) (source pool : ℕ) → frame_of bytes ≡ Event source pool → EventBytes bytes source pool
+pub event-bytes : (bytes : List ℕ) (source pool : ℕ) → frame_of bytes ≡ Some (Event source pool) → EventBytes bytes source pool
 event-bytes [] source pool e = let z : ◌≡◌ {A = ℕ} 0 1 = ap event_kind (frame-none [] refl ∙ e) in absurd (omega arith)
 event-bytes (kind ∷ fields) source pool e =
     by-test (eqb kind 1) (EventBytes (kind ∷ fields) source pool)
     (λ t.
     let k : kind ≡ 1 = eqb-true kind 1 t in
-    let f : frame_of (1 ∷ fields) ≡ Event source pool = ap (λ (x : ℕ). frame_of (x ∷ fields)) (sym k) ∙ e in
+    let f : frame_of (1 ∷ fields) ≡ Some (Event source pool) = ap (λ (x : ℕ). frame_of (x ∷ fields)) (sym k) ∙ e in
     by-test (leb 3 (length (1 ∷ fields))) (EventBytes (kind ∷ fields) source pool)
     (λ l.
     let q = event-parts _ _ _ _ (sym f ∙ frame-one fields ∙ rw l) in
@@ -118,13 +119,13 @@ event-bytes (kind ∷ fields) source pool e =
     (λ l. let z : ◌≡◌ {A = ℕ} 0 1 = ap event_kind (rw l at (sym (frame-one fields) ∙ f)) in absurd (omega arith)))
     (λ t. absurd (not_narrow kind fields t (ap event_kind e)))
 
-pub wide-bytes : (bytes : List ℕ) (source pool : ℕ) → frame_of bytes ≡ WideEvent source pool → WideBytes bytes source pool
+pub wide-bytes : (bytes : List ℕ) (source pool : ℕ) → frame_of bytes ≡ Some (WideEvent source pool) → WideBytes bytes source pool
 wide-bytes [] source pool e = let z : ◌≡◌ {A = ℕ} 0 5 = ap event_kind (frame-none [] refl ∙ e) in absurd (omega arith)
 wide-bytes (kind ∷ fields) source pool e =
     by-test (eqb kind 5) (WideBytes (kind ∷ fields) source pool)
     (λ t.
     let k : kind ≡ 5 = eqb-true kind 5 t in
-    let f : frame_of (5 ∷ fields) ≡ WideEvent source pool = ap (λ (x : ℕ). frame_of (x ∷ fields)) (sym k) ∙ e in
+    let f : frame_of (5 ∷ fields) ≡ Some (WideEvent source pool) = ap (λ (x : ℕ). frame_of (x ∷ fields)) (sym k) ∙ e in
     by-test (leb 4 (length (5 ∷ fields))) (WideBytes (kind ∷ fields) source pool)
     (λ l.
     let q = wide-parts _ _ _ _ (sym f ∙ frame-five fields ∙ rw l) in
@@ -137,9 +138,3 @@ wide-bytes (kind ∷ fields) source pool e =
     })
     (λ l. let z : ◌≡◌ {A = ℕ} 0 5 = ap event_kind (rw l at (sym (frame-five fields) ∙ f)) in absurd (omega arith)))
     (λ t. absurd (not_wide kind fields t (ap event_kind e)))
-
-pub invalid-event : (s p : ℕ) → Invalid ≡ Event s p → ⊥
-invalid-event s p h = let z : ◌≡◌ {A = ℕ} 0 1 = ap event_kind h in omega arith
-
-pub invalid-wide : (s p : ℕ) → Invalid ≡ WideEvent s p → ⊥
-invalid-wide s p h = let z : ◌≡◌ {A = ℕ} 0 5 = ap event_kind h in omega arith

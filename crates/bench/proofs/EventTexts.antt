@@ -3,7 +3,7 @@
 use mathlib.Core.Path.{◌≡◌, refl, sym, ap, subst, ◌∙◌}
 use mathlib.Core.Bool.{true, ◌&&◌}
 use mathlib.Core.List.{List, [], ◌∷◌}
-use mathlib.Core.Option.{some}
+use Rattle.std.specs.Prelude.{Some}
 use Prim.Native.Nat.{ℕ, suc, ◌+◌, ◌*◌, ◌/◌, ◌%◌, ◌≤◌}
 use native.Mathlib.Omega.{arith}
 use lib.Dec.{eqb}
@@ -17,7 +17,7 @@ use Rattle.bench.specs.Lines.{call_of, line_call}
 use Rattle.bench.specs.declared.frame.Frame.TheVariants.{Event, WideEvent}
 use Rattle.bench.proofs.Hexadecimal.{two_digits}
 use Rattle.bench.proofs.Texts.{readable, hex-frame}
-use Rattle.bench.proofs.EventBytes.{event-bytes, wide-bytes, frame-one, frame-five, invalid-event, invalid-wide}
+use Rattle.bench.proofs.EventBytes.{event-bytes, wide-bytes, frame-one, frame-five}
 
 -- ---- the characters: 48 49 is 01, and 48 53 is 05
 
@@ -94,10 +94,10 @@ wide-limit text t e h =
     let l : length (48 ∷ 53 ∷ t) ≤ max_line (48 ∷ 53 ∷ t) = subst (λ (x : List ℕ). length x ≤ max_line x) e h in
     omega (arith, wide_short t)
 
-pub event-text : (text : List ℕ) (source pool : ℕ) → frame_of_text text ≡ Event source pool → EventText text source pool
+pub event-text : (text : List ℕ) (source pool : ℕ) → frame_of_text text ≡ Some (Event source pool) → EventText text source pool
 unfolding digit_character
 event-text text source pool e =
-    let r = readable text (Event source pool) e (invalid-event source pool) in
+    let r = readable text (Event source pool) e in
     let b = event-bytes (decode_hex text) source pool r.frame in
     let f = first text 1 b.rest r.hex b.is in
     let is : text ≡ 48 ∷ 49 ∷ f.after = f.is in
@@ -141,10 +141,10 @@ two (a ∷ b ∷ t) d e l =
       decoded = refl;
     }
 
-pub wide-text : (text : List ℕ) (source pool : ℕ) → frame_of_text text ≡ WideEvent source pool → WideText text source pool
+pub wide-text : (text : List ℕ) (source pool : ℕ) → frame_of_text text ≡ Some (WideEvent source pool) → WideText text source pool
 unfolding digit_character
 wide-text text source pool e =
-    let r = readable text (WideEvent source pool) e (invalid-wide source pool) in
+    let r = readable text (WideEvent source pool) e in
     let b = wide-bytes (decode_hex text) source pool r.frame in
     let f = first text 5 b.rest r.hex b.is in
     let is : text ≡ 48 ∷ 53 ∷ f.after = f.is in
@@ -190,12 +190,12 @@ module _ (t : List ℕ) (f : Fields t) where
   unfolding decode_hex digit_value is_decimal is_capital
   decode-wide = refl
 
-  pub narrow-frame : frame_of_text (48 ∷ 49 ∷ t) ≡ Event (get_or (decode_hex t) 0 0) (get_or (decode_hex t) 1 0)
+  pub narrow-frame : frame_of_text (48 ∷ 49 ∷ t) ≡ Some (Event (get_or (decode_hex t) 0 0) (get_or (decode_hex t) 1 0))
   narrow-frame =
       hex-frame (48 ∷ 49 ∷ t) (rw (narrow_short t) (omega (arith, f.short))) hex-narrow
       ∙ ap frame_of decode-narrow ∙ frame-one (decode_hex t) ∙ rw (le-leb 3 (length (1 ∷ decode_hex t)) (omega (arith, f.long)))
 
-  pub wide-frame : frame_of_text (48 ∷ 53 ∷ 48 ∷ 48 ∷ t) ≡ WideEvent (get_or (decode_hex t) 0 0) (get_or (decode_hex t) 1 0)
+  pub wide-frame : frame_of_text (48 ∷ 53 ∷ 48 ∷ 48 ∷ t) ≡ Some (WideEvent (get_or (decode_hex t) 0 0) (get_or (decode_hex t) 1 0))
   wide-frame =
       let z : 0 * 256 + get_or (decode_hex t) 0 0 ≡ get_or (decode_hex t) 0 0 = omega arith in
       hex-frame (48 ∷ 53 ∷ 48 ∷ 48 ∷ t) (rw (wide_short (48 ∷ 48 ∷ t)) (omega (arith, f.short))) hex-wide
@@ -203,11 +203,11 @@ module _ (t : List ℕ) (f : Fields t) where
       ∙ rw (le-leb 4 (length (5 ∷ 0 ∷ decode_hex t)) (omega (arith, f.long)), z)
 
   -- and the calls, which are one
-  pub narrow-call : line_call (48 ∷ 49 ∷ t) ≡ some (event (get_or (decode_hex t) 0 0) (get_or (decode_hex t) 1 0) (drop 2 (decode_hex t)))
+  pub narrow-call : line_call (48 ∷ 49 ∷ t) ≡ Some (event (get_or (decode_hex t) 0 0) (get_or (decode_hex t) 1 0) (drop 2 (decode_hex t)))
   unfolding line_call call_of header_length
   narrow-call = rw (narrow-frame, decode-narrow)
 
-  pub wide-call : line_call (48 ∷ 53 ∷ 48 ∷ 48 ∷ t) ≡ some (event (get_or (decode_hex t) 0 0) (get_or (decode_hex t) 1 0) (drop 2 (decode_hex t)))
+  pub wide-call : line_call (48 ∷ 53 ∷ 48 ∷ 48 ∷ t) ≡ Some (event (get_or (decode_hex t) 0 0) (get_or (decode_hex t) 1 0) (drop 2 (decode_hex t)))
   unfolding line_call call_of header_length
   wide-call = rw (wide-frame, decode-wide)
 

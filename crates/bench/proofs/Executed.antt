@@ -3,7 +3,7 @@
 use mathlib.Core.Path.{◌≡◌, refl, sym, ap, ◌∙◌}
 use mathlib.Core.Bool.{Bool, true, false, cond}
 use mathlib.Core.List.{List, [], ◌∷◌, ◌++◌}
-use mathlib.Core.Option.{none, some}
+use Rattle.std.specs.Prelude.{Some, None}
 use Prim.Native.Nat.{ℕ, ◌+◌, ◌*◌, ◌≤◌, ◌<◌}
 use native.Mathlib.Omega.{arith}
 use lib.Dec.{eqb}
@@ -45,16 +45,16 @@ length-output n emptied bytes = go (eqb n 0)
     go false = omega arith
 
 pub invalid-prints : (s : Fortuna) (n : ℕ) (before after : List ℕ) → 3 ≤ length before → Shown (number_line no_frame) n before after
-    → Prints (executed s none) (record { next = s; written = n }) before after
+    → Prints (executed s None) (record { next = s; written = n }) before after
 unfolding executed
-invalid-prints s n before after h = prints (executed s none) s (number_line no_frame) n before after refl refl (rw length-number h)
+invalid-prints s n before after h = prints (executed s None) s (number_line no_frame) n before after refl refl (rw length-number h)
 
-pub event-prints : (s : Fortuna) (source pool : ℕ) (content : List ℕ) (o : Outcome) (k n : ℕ) (before after : List ℕ)
+pub event-prints : (s : Fortuna) (source pool : ℕ) (content : List ℕ) (o : Outcome Fortuna) (k n : ℕ) (before after : List ℕ)
     → Gives (step s (event source pool content)) o → k ≡ number o.answer → 3 ≤ length before → Shown (number_line k) n before after
-    → Prints (executed s (some (event source pool content))) (record { next = o.next; written = n }) before after
+    → Prints (executed s (Some (event source pool content))) (record { next = o.next; written = n }) before after
 unfolding executed outcome_line answer_line
 event-prints s source pool content o k n before after (e, f, g) i h =
-    prints (executed s (some (event source pool content))) o.next (number_line k) n before after g (ap number_line (i ∙ e)) (rw length-number h)
+    prints (executed s (Some (event source pool content))) o.next (number_line k) n before after g (ap number_line (i ∙ e)) (rw length-number h)
 
 -- the calls that lend a buffer
 abbrev pub Lends : Call → Type 0
@@ -72,15 +72,16 @@ pub write-lends : (clock : ℕ) (seed : List ℕ) → Lends (write clock seed)
 unfolding answer_line
 write-lends clock seed n emptied after = refl
 
-module _ (s : Fortuna) (c : Call) (o : Outcome) where
+module _ (s : Fortuna) (c : Call) (o : Outcome Fortuna) where
   -- two digits are enough for the pools emptied
   pub emptied-small : Gives (step s c) o → o.emptied < 100
   emptied-small (e, f, g) = rw f (omega (arith, step-emptied-few s c, pools-small))
 
   pub output-prints : (bytes : List ℕ) (k n : ℕ) (before after : List ℕ)
-      → Lends c → GivesBytes (step s c) o bytes → k ≡ number o.answer → 7 + 2 * length bytes ≤ length before → Shown (output_line k o.emptied bytes) n before after
-      → Prints (executed s (some c)) (record { next = o.next; written = n }) before after
+      → Lends c → GivesBytes (step s c) o bytes → k ≡ number o.answer → 7 + 2 * length bytes ≤ length before
+      → Shown (output_line k o.emptied bytes) n before after
+      → Prints (executed s (Some c)) (record { next = o.next; written = n }) before after
   unfolding executed outcome_line
   output-prints bytes k n before after l ((e, f, g), b) i h =
-      prints (executed s (some c)) o.next (output_line k o.emptied bytes) n before after g (sym (l k o.emptied bytes) ∙ rw (i ∙ e, f, b))
+      prints (executed s (Some c)) o.next (output_line k o.emptied bytes) n before after g (sym (l k o.emptied bytes) ∙ rw (i ∙ e, f, b))
       (omega (arith, length-output k o.emptied bytes))

@@ -3,7 +3,7 @@
 use mathlib.Core.Path.{◌≡◌, refl, sym}
 use mathlib.Core.Bool.{cond}
 use mathlib.Core.List.{List, [], ◌∷◌}
-use mathlib.Core.Option.{none, some}
+use Rattle.std.specs.Prelude.{Option, Some, None}
 use Prim.Native.Nat.{ℕ, ◌-◌, ◌≤◌, zero-le}
 use native.Mathlib.Nat.{le_of_eq}
 use lib.Dec.{eqb, leb}
@@ -17,44 +17,44 @@ use Rattle.bench.specs.Frames.{big_endian16, big_endian32, event_frame, request_
 use Rattle.bench.specs.Buffers.{zeros}
 use Rattle.bench.specs.Lines.{call_of}
 use Rattle.bench.specs.declared.frame.Frame.{Frame}
-use Rattle.bench.specs.declared.frame.Frame.TheVariants.{Event, Request, Update, Write, WideEvent, Invalid}
+use Rattle.bench.specs.declared.frame.Frame.TheVariants.{Event, Request, Update, Write, WideEvent}
+
+-- what a frame's bytes say
+unfoldable pub parsing : Unit {0}
+unfolding frame_of event_frame request_frame update_frame write_frame wide_event_frame big_endian16 big_endian32
+parsing = tt
 
 -- no bytes
-pub frame-none : (bytes : List ℕ) → length bytes ≡ 0 → Invalid ≡ frame_of bytes
+pub frame-none : (bytes : List ℕ) → length bytes ≡ 0 → None ≡ frame_of bytes
 unfolding frame_of
 frame-none [] e = refl
 frame-none (kind ∷ fields) e = cc
 
--- by the first byte
-pub frame-some : (bytes : List ℕ) → (length bytes ≡ 0 → ⊥)
-    → frame_of bytes
-    ≡ cond (eqb (get_or bytes 0 0) 1) (event_frame bytes)
-    (cond (eqb (get_or bytes 0 0) 2) (request_frame bytes)
-    (cond (eqb (get_or bytes 0 0) 3) (update_frame bytes)
-    (cond (eqb (get_or bytes 0 0) 4) (write_frame bytes)
-    (cond (eqb (get_or bytes 0 0) 5) (wide_event_frame bytes)
-    Invalid))))
-unfolding frame_of
-frame-some [] h = absurd (h refl)
-frame-some (kind ∷ fields) h = refl
-
 -- ---- a frame's bytes hold its header
 
+-- the header of a frame, if there is one
+header : Option Frame → ℕ
+header None = 0
+header (Some f) = header_length f
+
 -- a frame with data, and one without
-header-and-data : (f : Frame) (bytes : List ℕ) → header_length (cond (leb (header_length f) (length bytes)) f Invalid) ≤ length bytes
+header-and-data : (f : Frame) (bytes : List ℕ) → header (cond (leb (header_length f) (length bytes)) (Some f) None) ≤ length bytes
+unfolding header
 header-and-data f bytes =
-    split (λ (g : Frame). header_length g ≤ length bytes) (leb (header_length f) (length bytes)) (leb-true (header_length f) (length bytes)) (λ t. unfold header_length in zero-le)
+    split (λ (g : Option Frame). header g ≤ length bytes) (leb (header_length f) (length bytes)) (leb-true (header_length f) (length bytes)) (λ t. zero-le)
 
-header-alone : (f : Frame) (bytes : List ℕ) → header_length (cond (eqb (length bytes) (header_length f)) f Invalid) ≤ length bytes
+header-alone : (f : Frame) (bytes : List ℕ) → header (cond (eqb (length bytes) (header_length f)) (Some f) None) ≤ length bytes
+unfolding header
 header-alone f bytes =
-    split (λ (g : Frame). header_length g ≤ length bytes) (eqb (length bytes) (header_length f)) (λ t. le_of_eq (sym (eqb-true (length bytes) (header_length f) t))) (λ t. unfold header_length in zero-le)
+    split (λ (g : Option Frame). header g ≤ length bytes) (eqb (length bytes) (header_length f))
+    (λ t. le_of_eq (sym (eqb-true (length bytes) (header_length f) t))) (λ t. zero-le)
 
-header-fits : (bytes : List ℕ) → header_length (frame_of bytes) ≤ length bytes
-unfolding frame_of event_frame request_frame update_frame write_frame wide_event_frame header_length
+header-fits : (bytes : List ℕ) → header (frame_of bytes) ≤ length bytes
+unfolding frame_of event_frame request_frame update_frame write_frame wide_event_frame header_length header
 header-fits [] = zero-le
 header-fits (kind ∷ fields) =
     let bytes : List ℕ = kind ∷ fields in
-    let holds : Frame → Type 0 = λ f. header_length f ≤ length bytes in
+    let holds : Option Frame → Type 0 = λ f. header f ≤ length bytes in
     split holds (eqb kind 1) (λ t. header-and-data (Event (get_or bytes 1 0) (get_or bytes 2 0)) bytes)
     (λ t. split holds (eqb kind 2) (λ t. header-alone (Request (big_endian32 bytes 1) (big_endian16 bytes 5)) bytes)
     (λ t. split holds (eqb kind 3) (λ t. header-and-data (Update (big_endian32 bytes 1)) bytes)
@@ -66,33 +66,34 @@ header-fits (kind ∷ fields) =
 
 module _ (bytes : List ℕ) where
   -- a frame with data: there is room for its header, and its call takes what stands behind
-  data-call : (f : Frame) (make : List ℕ → Call) → call_of f bytes ≡ some (make (drop (header_length f) bytes)) → frame_of bytes ≡ f
-      → (header_length f ≤ length bytes) × (call_of (frame_of bytes) bytes ≡ some (make (take (length bytes - header_length f) (drop (header_length f) bytes))))
+  data-call : (f : Frame) (make : List ℕ → Call) → call_of (Some f) bytes ≡ Some (make (drop (header_length f) bytes)) → frame_of bytes ≡ Some f
+      → (header_length f ≤ length bytes) × (call_of (frame_of bytes) bytes ≡ Some (make (take (length bytes - header_length f) (drop (header_length f) bytes))))
+  unfolding header
   data-call f make is e = (rw e at (header-fits bytes), rw (e, part_end) is)
 
-  pub event-call : {source pool : ℕ} → frame_of bytes ≡ Event source pool
-      → (3 ≤ length bytes) × (call_of (frame_of bytes) bytes ≡ some (event source pool (take (length bytes - 3) (drop 3 bytes))))
+  pub event-call : {source pool : ℕ} → frame_of bytes ≡ Some (Event source pool)
+      → (3 ≤ length bytes) × (call_of (frame_of bytes) bytes ≡ Some (event source pool (take (length bytes - 3) (drop 3 bytes))))
   unfolding call_of header_length
   event-call {source} {pool} e = data-call (Event source pool) (event source pool) refl e
 
-  pub request-call : {clock count : ℕ} → frame_of bytes ≡ Request clock count → call_of (frame_of bytes) bytes ≡ some (request clock (zeros count))
+  pub request-call : {clock count : ℕ} → frame_of bytes ≡ Some (Request clock count) → call_of (frame_of bytes) bytes ≡ Some (request clock (zeros count))
   unfolding call_of
   request-call e = rw e
 
-  pub update-call : {clock : ℕ} → frame_of bytes ≡ Update clock
-      → (5 ≤ length bytes) × (call_of (frame_of bytes) bytes ≡ some (update clock (take (length bytes - 5) (drop 5 bytes))))
+  pub update-call : {clock : ℕ} → frame_of bytes ≡ Some (Update clock)
+      → (5 ≤ length bytes) × (call_of (frame_of bytes) bytes ≡ Some (update clock (take (length bytes - 5) (drop 5 bytes))))
   unfolding call_of header_length
   update-call {clock} e = data-call (Update clock) (update clock) refl e
 
-  pub write-call : {clock : ℕ} → frame_of bytes ≡ Write clock → call_of (frame_of bytes) bytes ≡ some (write clock (zeros seed_size))
+  pub write-call : {clock : ℕ} → frame_of bytes ≡ Some (Write clock) → call_of (frame_of bytes) bytes ≡ Some (write clock (zeros seed_size))
   unfolding call_of
   write-call e = rw e
 
-  pub wide-event-call : {source pool : ℕ} → frame_of bytes ≡ WideEvent source pool
-      → (4 ≤ length bytes) × (call_of (frame_of bytes) bytes ≡ some (event source pool (take (length bytes - 4) (drop 4 bytes))))
+  pub wide-event-call : {source pool : ℕ} → frame_of bytes ≡ Some (WideEvent source pool)
+      → (4 ≤ length bytes) × (call_of (frame_of bytes) bytes ≡ Some (event source pool (take (length bytes - 4) (drop 4 bytes))))
   unfolding call_of header_length
   wide-event-call {source} {pool} e = data-call (WideEvent source pool) (event source pool) refl e
 
-  pub invalid-call : frame_of bytes ≡ Invalid → call_of (frame_of bytes) bytes ≡ none
+  pub no_frame-call : frame_of bytes ≡ None → call_of (frame_of bytes) bytes ≡ None
   unfolding call_of
-  invalid-call e = rw e
+  no_frame-call e = rw e

@@ -4,7 +4,6 @@ use mathlib.Core.Path.{◌≡◌, refl, sym, ap, ap₂, ◌∙◌}
 use mathlib.Core.Bool.{Bool, true, false, cond, ◌&&◌, false≢true}
 use mathlib.Core.List.{List, [], ◌∷◌, ◌++◌, append_assoc, append-nil}
 use Prim.Native.Nat.{ℕ, zero, suc, ◌+◌, ◌*◌, ◌/◌, ◌%◌, ◌<◌, ◌≤◌}
-use native.Mathlib.Nat.{add-zero}
 use native.Mathlib.Omega.{arith}
 use native.Mathlib.Numerals.{add-one}
 use lib.Dec.{leb, ltb}
@@ -39,9 +38,9 @@ capital-small c e = go (leb 65 c) e
     go false e = absurd (false≢true e)
 
 -- a digit's value is below 16
-pub digit-small : (c : ℕ) → digit_value c < 16
+pub digit_small : (c : ℕ) → digit_value c < 16
 unfolding digit_value
-digit-small c =
+digit_small c =
     split (λ (x : ℕ). x < 16) (is_decimal c)
     (λ t. omega (arith, decimal-small c t))
     (λ t. split (λ (x : ℕ). x < 16) (is_capital c) (λ u. omega (arith, capital-small c u)) (λ u. omega arith))
@@ -72,8 +71,8 @@ digit-is c h =
 pub two_digits : (c d b : ℕ) → is_digit c ≡ true → is_digit d ≡ true → 16 * digit_value c + digit_value d ≡ b
     → (c ≡ digit_character (b / 16)) × (d ≡ digit_character (b % 16))
 two_digits c d b p q e =
-    let h : digit_value c ≡ b / 16 = omega (arith, digit-small c, digit-small d) in
-    let l : digit_value d ≡ b % 16 = omega (arith, digit-small c, digit-small d) in
+    let h : digit_value c ≡ b / 16 = omega (arith, digit_small c, digit_small d) in
+    let l : digit_value d ≡ b % 16 = omega (arith, digit_small c, digit_small d) in
     (sym (digit-is c p) ∙ ap digit_character h, sym (digit-is d q) ∙ ap digit_character l)
 
 -- a byte is below 256
@@ -81,7 +80,7 @@ pub byte_small : (text : List ℕ) (i : ℕ) → get_or (decode_hex text) i 0 < 
 unfolding decode_hex
 byte_small [] i = omega arith
 byte_small (c ∷ []) i = omega arith
-byte_small (c ∷ d ∷ text) zero = omega (arith, digit-small c, digit-small d)
+byte_small (c ∷ d ∷ text) zero = omega (arith, digit_small c, digit_small d)
 byte_small (c ∷ d ∷ text) (suc i) = byte_small text i
 
 -- ---- the loop over a text's characters: `sofar` says of the first i whether all are digits
@@ -125,7 +124,8 @@ length-decode (c ∷ d ∷ text) = let e : length (decode_hex text) ≡ length t
 
 -- two characters more
 decode-two : (text : List ℕ) (i : ℕ) → 2 * i + 1 < length text
-    → decode_hex (drop (2 * i) text) ≡ (16 * digit_value (get_or text (2 * i) 0) + digit_value (get_or text (2 * i + 1) 0)) ∷ decode_hex (drop (2 * (i + 1)) text)
+    → decode_hex (drop (2 * i) text)
+    ≡ (16 * digit_value (get_or text (2 * i) 0) + digit_value (get_or text (2 * i + 1) 0)) ∷ decode_hex (drop (2 * (i + 1)) text)
 unfolding decode_hex
 decode-two text i h =
     let e : suc (2 * i) ≡ 2 * i + 1 = omega arith in
@@ -179,15 +179,13 @@ encode_one : (bytes : List ℕ) (i : ℕ) → i < length bytes
 unfolding encode_hex
 encode_one bytes i h = rw (drop-cons bytes i 0 h, add-one i)
 
--- the text of the first i bytes stands in out from a place on, and what is left of the bytes gives the rest
-abbrev pub Encoded : List ℕ → ℕ → List ℕ → List ℕ → ℕ → Type 0
-Encoded bytes at out₀ out i =
-    (length out ≡ length out₀)
-    × (take (at + 2 * i) out ++ encode_hex (drop i bytes) ≡ take at out₀ ++ encode_hex bytes)
-    × (drop (at + 2 * i) out ≡ drop (at + 2 * i) out₀)
+-- the text of the first i bytes stands in out, and what is left of the bytes gives the rest
+abbrev pub Encoded : List ℕ → List ℕ → List ℕ → ℕ → Type 0
+Encoded bytes out₀ out i =
+    (length out ≡ length out₀) × (take (2 * i) out ++ encode_hex (drop i bytes) ≡ encode_hex bytes) × (drop (2 * i) out ≡ drop (2 * i) out₀)
 
-pub encoded-none : (bytes : List ℕ) (at : ℕ) (out : List ℕ) → Encoded bytes at out out 0
-encoded-none bytes at out = (refl, rw add-zero, refl)
+pub encoded-none : (bytes out : List ℕ) → Encoded bytes out out 0
+encoded-none bytes out = (refl, refl, refl)
 
 -- two stores, one after the other
 take-two : (d : List ℕ) (k v w : ℕ) → k + 1 < length d → take (k + 2) (set (set d k v) (k + 1) w) ≡ take k d ++ (v ∷ w ∷ [])
@@ -195,12 +193,12 @@ take-two d k v w h =
     let e : k + 2 ≡ suc (k + 1) = omega arith in
     rw (e, take-suc-set (set d k v) (k + 1) w (rw length-set h), add-one k, take-suc-set d k v (omega arith)) (append_assoc (take k d) (v ∷ []) (w ∷ []))
 
-pub encoded-more : (bytes : List ℕ) (at : ℕ) (out₀ out : List ℕ) (i v w : ℕ) → Encoded bytes at out₀ out i
-    → v ≡ digit_character (get_or bytes i 0 / 16) → w ≡ digit_character (get_or bytes i 0 % 16) → i < length bytes → at + 2 * i + 1 < length out₀
-    → Encoded bytes at out₀ (set (set out (at + 2 * i) v) (at + 2 * i + 1) w) (i + 1)
-encoded-more bytes at out₀ out i v w (l, front, back) e f h room =
-    let k : ℕ = at + 2 * i in
-    let g : at + 2 * (i + 1) ≡ k + 2 = omega arith in (
+pub encoded-more : (bytes out₀ out : List ℕ) (i v w : ℕ) → Encoded bytes out₀ out i
+    → v ≡ digit_character (get_or bytes i 0 / 16) → w ≡ digit_character (get_or bytes i 0 % 16) → i < length bytes → 2 * i + 1 < length out₀
+    → Encoded bytes out₀ (set (set out (2 * i) v) (2 * i + 1) w) (i + 1)
+encoded-more bytes out₀ out i v w (l, front, back) e f h room =
+    let k : ℕ = 2 * i in
+    let g : 2 * (i + 1) ≡ k + 2 = omega arith in (
       simp length-set l,
       rw (g, take-two out k v w (omega arith), e, f) (append_assoc (take k out) _ _ ∙ rw (← encode_one bytes i h) front),
       rw g
@@ -208,10 +206,10 @@ encoded-more bytes at out₀ out i v w (l, front, back) e f h room =
           ∙ sym (drop-drop 2 k out) ∙ ap (drop 2) back ∙ drop-drop 2 k out₀),
     )
 
-pub encoded-all : (bytes : List ℕ) (at : ℕ) (out₀ out : List ℕ) (i : ℕ) → Encoded bytes at out₀ out i → i ≡ length bytes
-    → out ≡ take at out₀ ++ encode_hex bytes ++ drop (at + 2 * length bytes) out₀
+pub encoded-all : (bytes out₀ out : List ℕ) (i : ℕ) → Encoded bytes out₀ out i → i ≡ length bytes
+    → out ≡ encode_hex bytes ++ drop (2 * length bytes) out₀
 unfolding encode_hex
-encoded-all bytes at out₀ out i (l, front, back) e =
+encoded-all bytes out₀ out i (l, front, back) e =
     let z : encode_hex (drop i bytes) ≡ [] = rw (e, drop-length) in
-    let f : take (at + 2 * i) out ≡ take at out₀ ++ encode_hex bytes = sym (append-nil (take (at + 2 * i) out)) ∙ (rw z at front) in
-    sym (take-append-drop (at + 2 * i) out) ∙ rw (f, back, e)
+    let f : take (2 * i) out ≡ encode_hex bytes = sym (append-nil (take (2 * i) out)) ∙ (rw z at front) in
+    sym (take-append-drop (2 * i) out) ∙ rw (f, back, e)

@@ -5,12 +5,14 @@ use mathlib.Core.Bool.{Bool, true, false, cond, ◌||◌, true≢false}
 use mathlib.Core.List.{List, [], ◌∷◌, ◌++◌, append-nil}
 use Prim.Native.Nat.{ℕ, suc, ◌+◌, ◌≤◌, ◌<◌}
 use native.Mathlib.Nat.{add-zero, suc-add}
-use native.Mathlib.Numerals.{add-one}
 use native.Mathlib.Omega.{arith}
 use lib.Dec.{eqb, ltb}
-use lib.ListN.{length, get_or, take, drop, length-append}
-use lib.Seq.{drop-cons, drop-length, append_snoc, take_at, take_all}
-use borrow.Author.Tests.{ne_eqb, eqb-true, lt-ltb, le-ltb}
+use lib.ListN.{length, take, drop, length-append}
+use lib.Seq.{append_snoc, take_at, take_all}
+use borrow.Author.Tests.{eqb-true, ltb-false, lt-ltb, le-ltb}
+use Rattle.std.specs.Prelude.{Option, Some, None, unwrap_or}
+use Rattle.std.specs.List.{position_or_len}
+use Rattle.std.proofs.lemmas.List.Recursion.{is_position_or_len}
 use Rattle.laws.proofs.Cases.{split, by-test, neither}
 use Rattle.bench.specs.Lines.{line_feed}
 use Rattle.bench.specs.Input.{final_line, lines_following, lines, first_line, has_line_feed, used_by}
@@ -124,20 +126,28 @@ used-more (c ∷ r) h = go (eqb c line_feed)
     go true = omega arith
     go false = omega arith
 
--- ---- the loop that finds the end of a line, at place i of a chunk
+-- ---- where the end of a line is found
 
-module _ (chunk : List ℕ) (i : ℕ) (h : i < length chunk) where
-  pub first-at : get_or chunk i 0 ≡ line_feed → length (first_line (drop i chunk)) ≡ 0
+module _ (chunk : List ℕ) where
+  first-place : length (first_line chunk) ≡ position_or_len (λ c. eqb c line_feed) chunk
   unfolding first_line
-  first-at e = rw (drop-cons chunk i 0 h, e)
+  first-place = is_position_or_len (λ r. length (first_line r)) (λ c. eqb c line_feed) refl step chunk
+    where
+      step : (c : ℕ) (r : List ℕ) → length (cond (eqb c line_feed) [] (c ∷ first_line r)) ≡ cond (eqb c line_feed) 0 (1 + length (first_line r))
+      step c r = go (eqb c line_feed)
+        where
+          go : (t : Bool) → length (cond t [] (c ∷ first_line r)) ≡ cond t 0 (1 + length (first_line r))
+          go true = refl
+          go false = omega arith
 
-  pub first_past : (get_or chunk i 0 ≡ line_feed → ⊥) → length (first_line (drop i chunk)) ≡ suc (length (first_line (drop (i + 1) chunk)))
-  unfolding first_line
-  first_past n = rw (drop-cons chunk i 0 h, ne_eqb (get_or chunk i 0) line_feed n, add-one i)
-
-pub first-end : (chunk : List ℕ) → length (first_line (drop (length chunk) chunk)) ≡ 0
-unfolding first_line
-first-end chunk = rw drop-length
+  -- the first place of a line feed, or all
+  pub first-position : (found : Option ℕ)
+      → found ≡ cond (ltb (position_or_len (λ c. eqb c line_feed) chunk) (length chunk)) (Some (position_or_len (λ c. eqb c line_feed) chunk)) None
+      → unwrap_or found (length chunk) ≡ length (first_line chunk)
+  first-position found e =
+      by-test (ltb (length (first_line chunk)) (length chunk)) _
+      (λ t. rw (e, ← first-place, t))
+      (λ t. rw (e, ← first-place, t) (omega (arith, first_fits chunk, ltb-false _ _ t)))
 
 -- ---- what `lines` is
 

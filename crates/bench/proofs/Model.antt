@@ -2,7 +2,7 @@
 -- Assumes nothing.
 use mathlib.Core.Path.{◌≡◌, refl, sym, ap, ◌∙◌}
 use mathlib.Core.List.{List, [], ◌∷◌, ◌++◌, map}
-use mathlib.Core.Option.{Option, none, some}
+use Rattle.std.specs.Prelude.{Option, Some, None}
 use Prim.Native.Nat.{ℕ, suc}
 use Rattle.pools.specs.State.{fresh}
 use Rattle.pools.specs.Calls.{Call, Outcome, step, run_from, run}
@@ -21,9 +21,9 @@ answers-concrete : (calls : List (Option Call)) (outcomes : List (Outcome Refere
     → answers calls (map concrete_outcome outcomes) ≡ answers calls outcomes
 unfolding answers outcome_line concrete_outcome
 answers-concrete [] outcomes = refl
-answers-concrete (none ∷ calls) outcomes = ap (λ (l : List ℕ). number_line no_frame ++ l) (answers-concrete calls outcomes)
-answers-concrete (some c ∷ calls) [] = refl
-answers-concrete (some c ∷ calls) (o ∷ outcomes) = ap (λ (l : List ℕ). outcome_line c o ++ l) (answers-concrete calls outcomes)
+answers-concrete (None ∷ calls) outcomes = ap (λ (l : List ℕ). number_line no_frame ++ l) (answers-concrete calls outcomes)
+answers-concrete (Some c ∷ calls) [] = refl
+answers-concrete (Some c ∷ calls) (o ∷ outcomes) = ap (λ (l : List ℕ). outcome_line c o ++ l) (answers-concrete calls outcomes)
 
 -- what lines print is what the outcomes of the run of their calls print
 printed-run : (texts : List (List ℕ)) (place : ℕ) (s : Fortuna)
@@ -37,8 +37,8 @@ printed-run (text ∷ texts) place s = go (line_call text) (printed-run texts)
         → printed_from s texts ≡ answers (map line_call texts) (run_from (λ place. step) place s (made (map line_call texts))))
         → (executed s c).printed ++ printed_from (executed s c).next texts
         ≡ answers (c ∷ map line_call texts) (run_from (λ place. step) place s (made (c ∷ map line_call texts)))
-    go none rest = ap (λ (l : List ℕ). number_line no_frame ++ l) (rest place s)
-    go (some c) rest = ap (λ (l : List ℕ). outcome_line c (step s c) ++ l) (rest (suc place) (step s c).effect.next)
+    go None rest = ap (λ (l : List ℕ). number_line no_frame ++ l) (rest place s)
+    go (Some c) rest = ap (λ (l : List ℕ). outcome_line c (step s c) ++ l) (rest (suc place) (step s c).effect.next)
 
 -- an input's answers go by the calls of its lines alone
 pub same-calls : (input other : List ℕ) → map line_call (lines input) ≡ map line_call (lines other) → transcript input ≡ transcript other

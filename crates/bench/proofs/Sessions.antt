@@ -37,7 +37,8 @@ cut-more c sofar x =
     take-append-le c (take c sofar) (x ∷ []) (omega arith) ∙ take_all c (take c sofar) (omega arith) ∙ sym (take-append-le c sofar (x ∷ []) h))
     (λ t. rw (take_all c sofar (omega (arith, leb-false c (length sofar) t))))
 
-cut-lines : (input : List ℕ) (s : Fortuna) (c : ℕ) (sofar : List ℕ) → max_wide_line < c → printed_from s (lines_following (take c sofar) input) ≡ printed_from s (lines_following sofar input)
+cut-lines : (input : List ℕ) (s : Fortuna) (c : ℕ) (sofar : List ℕ) → max_wide_line < c
+    → printed_from s (lines_following (take c sofar) input) ≡ printed_from s (lines_following sofar input)
 unfolding lines_following printed_from
 cut-lines [] s c sofar h = cut-last s c sofar h
 cut-lines (x ∷ input) s c sofar h =
@@ -105,7 +106,8 @@ step-remaining x r rest room = ap (printed_from x.state) (lines_after (held_line
     y = extended x (first_line r)
 
     go : (t : Bool) → has_line_feed r ≡ t
-        → printed_from x.state (cond t ((held_line x ++ first_line r) ∷ lines_following [] (drop (used_by r) r ++ rest)) (lines_following (held_line x ++ first_line r) rest))
+        → printed_from x.state
+        (cond t ((held_line x ++ first_line r) ∷ lines_following [] (drop (used_by r) r ++ rest)) (lines_following (held_line x ++ first_line r) rest))
         ≡ cond t (line_of y.state (held_line y)).printed [] ++ remaining (cond t (ended y) y) (drop (used_by r) r ++ rest)
     go true e = with-feed x (first_line r) room (drop (used_by r) r ++ rest)
     go false e = rw (used_all r e, drop-length) (without-feed x (first_line r) room rest)
@@ -152,7 +154,8 @@ chunk-remaining (suc n) x r rest h room =
         ∙ ap (λ (l : List ℕ). step_printed x r ++ l) (more (rw length-drop (omega arith)) (rw (length-step x r) room))
         ∙ sym (append_assoc (step_printed x r) (chunk_printed n x' r') (remaining (chunk_session n x' r') rest))
 
-chunks-remaining : (chunks : List (List ℕ)) (x : Session) → max_wide_line < length x.text → chunks_printed x chunks ≡ remaining x (joined (λ chunk. chunk) chunks)
+chunks-remaining : (chunks : List (List ℕ)) (x : Session) → max_wide_line < length x.text
+    → chunks_printed x chunks ≡ remaining x (joined (λ chunk. chunk) chunks)
 unfolding chunks_printed
 chunks-remaining [] x room = unfold finish_printed joined lines_following in refl
 chunks-remaining (chunk ∷ chunks) x room =

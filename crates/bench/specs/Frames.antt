@@ -1,9 +1,9 @@
 -- Which frame a line is.
 -- Assumes nothing.
-use Rattle.std.specs.Prelude.{Bool, cond, ◌&&◌, List, [], ◌∷◌, ℕ, ◌+◌, ◌*◌, eqb, leb, length, get_or}
+use Rattle.std.specs.Prelude.{Bool, cond, ◌&&◌, List, [], ◌∷◌, ℕ, ◌+◌, ◌*◌, eqb, leb, length, get_or, Option, Some, None}
 use Rattle.bench.specs.Hexadecimal.{is_hex, decode_hex}
 use Rattle.bench.specs.declared.frame.Frame.{Frame}
-use Rattle.bench.specs.declared.frame.Frame.TheVariants.{Event, Request, Update, Write, WideEvent, Invalid}
+use Rattle.bench.specs.declared.frame.Frame.TheVariants.{Event, Request, Update, Write, WideEvent}
 
 -- the most characters of a line, its line feed not counted: of one that begins with 05, and of any other
 abbrev pub max_wide_line : ℕ
@@ -29,39 +29,43 @@ unfoldable pub big_endian32 : List ℕ → ℕ → ℕ
 big_endian32 bytes at = big_endian16 bytes at * 65536 + big_endian16 bytes (at + 2)
 
 -- 01: source byte, pool byte, data (the rest)
-unfoldable pub event_frame : List ℕ → Frame
-event_frame bytes = cond (leb 3 (length bytes)) (Event (get_or bytes 1 0) (get_or bytes 2 0)) Invalid
+unfoldable pub event_frame : List ℕ → Option Frame
+event_frame bytes = cond (leb 3 (length bytes)) (Some (Event (get_or bytes 1 0) (get_or bytes 2 0))) None
 
 -- 02: clock, n, nothing more
-unfoldable pub request_frame : List ℕ → Frame
-request_frame bytes = cond (eqb (length bytes) 7) (Request (big_endian32 bytes 1) (big_endian16 bytes 5)) Invalid
+unfoldable pub request_frame : List ℕ → Option Frame
+request_frame bytes = cond (eqb (length bytes) 7) (Some (Request (big_endian32 bytes 1) (big_endian16 bytes 5))) None
 
 -- 03: clock, seed (the rest)
-unfoldable pub update_frame : List ℕ → Frame
-update_frame bytes = cond (leb 5 (length bytes)) (Update (big_endian32 bytes 1)) Invalid
+unfoldable pub update_frame : List ℕ → Option Frame
+update_frame bytes = cond (leb 5 (length bytes)) (Some (Update (big_endian32 bytes 1))) None
 
 -- 04: clock, nothing more
-unfoldable pub write_frame : List ℕ → Frame
-write_frame bytes = cond (eqb (length bytes) 5) (Write (big_endian32 bytes 1)) Invalid
+unfoldable pub write_frame : List ℕ → Option Frame
+write_frame bytes = cond (eqb (length bytes) 5) (Some (Write (big_endian32 bytes 1))) None
 
 -- 05: source (2 bytes), pool byte, data (the rest)
-unfoldable pub wide_event_frame : List ℕ → Frame
-wide_event_frame bytes = cond (leb 4 (length bytes)) (WideEvent (big_endian16 bytes 1) (get_or bytes 3 0)) Invalid
+unfoldable pub wide_event_frame : List ℕ → Option Frame
+wide_event_frame bytes = cond (leb 4 (length bytes)) (Some (WideEvent (big_endian16 bytes 1) (get_or bytes 3 0))) None
 
 -- the frame that bytes make, by the first of them
-unfoldable pub frame_of : List ℕ → Frame
-frame_of [] = Invalid
+unfoldable pub frame_of : List ℕ → Option Frame
+frame_of [] = None
 frame_of (kind ∷ fields) =
     cond (eqb kind 1) (event_frame (kind ∷ fields))
     (cond (eqb kind 2) (request_frame (kind ∷ fields))
     (cond (eqb kind 3) (update_frame (kind ∷ fields))
     (cond (eqb kind 4) (write_frame (kind ∷ fields))
     (cond (eqb kind 5) (wide_event_frame (kind ∷ fields))
-    Invalid))))
+    None))))
+
+-- a line that may be a frame: no more characters than its first two allow, and hexadecimal
+abbrev pub is_readable : List ℕ → Bool
+is_readable text = leb (length text) (max_line text) && is_hex text
 
 -- the frame that a line of text is
-unfoldable pub frame_of_text : List ℕ → Frame
-frame_of_text text = cond (leb (length text) (max_line text) && is_hex text) (frame_of (decode_hex text)) Invalid
+unfoldable pub frame_of_text : List ℕ → Option Frame
+frame_of_text text = cond (is_readable text) (frame_of (decode_hex text)) None
 
 -- how many bytes stand before a frame's data
 unfoldable pub header_length : Frame → ℕ
@@ -70,4 +74,3 @@ header_length (Request clock count) = 7
 header_length (Update clock) = 5
 header_length (Write clock) = 5
 header_length (WideEvent source pool) = 4
-header_length Invalid = 0

@@ -1,7 +1,6 @@
 -- The call that a line makes, what is printed of its outcome, and both together on a state.
 -- Assumes nothing.
-use Rattle.std.specs.Prelude.{◌≡◌, cond, List, [], ◌∷◌, ◌++◌, ℕ, ◌≤◌, eqb, length, drop}
-use Rattle.std.proofs.Math.Option.{Option, none, some}
+use Rattle.std.specs.Prelude.{◌≡◌, cond, List, [], ◌∷◌, ◌++◌, ℕ, ◌≤◌, eqb, length, drop, Option, Some, None}
 use Rattle.laws.specs.Lists.{overwrite}
 use Rattle.pools.specs.Refusals.{seed_size}
 use Rattle.pools.specs.Calls.{Call, event, request, update, write, draw, shuffle, Outcome, step}
@@ -10,19 +9,19 @@ use Rattle.bench.specs.Hexadecimal.{decode_hex, encode_hex, decimal}
 use Rattle.bench.specs.Frames.{frame_of_text, header_length}
 use Rattle.bench.specs.Buffers.{zeros}
 use Rattle.bench.specs.declared.frame.Frame.{Frame}
-use Rattle.bench.specs.declared.frame.Frame.TheVariants.{Event, Request, Update, Write, WideEvent, Invalid}
+use Rattle.bench.specs.declared.frame.Frame.TheVariants.{Event, Request, Update, Write, WideEvent}
 use Rattle.bench.specs.declared.line.LineOutcome.{LineOutcome}
 
 -- ---- the call
 
 -- the call that a frame of these bytes makes; what is no frame makes none
-unfoldable pub call_of : Frame → List ℕ → Option Call
-call_of (Event source pool) bytes = some (event source pool (drop (header_length (Event source pool)) bytes))
-call_of (Request clock count) bytes = some (request clock (zeros count))
-call_of (Update clock) bytes = some (update clock (drop (header_length (Update clock)) bytes))
-call_of (Write clock) bytes = some (write clock (zeros seed_size))
-call_of (WideEvent source pool) bytes = some (event source pool (drop (header_length (WideEvent source pool)) bytes))
-call_of Invalid bytes = none
+unfoldable pub call_of : Option Frame → List ℕ → Option Call
+call_of (Some (Event source pool)) bytes = Some (event source pool (drop (header_length (Event source pool)) bytes))
+call_of (Some (Request clock count)) bytes = Some (request clock (zeros count))
+call_of (Some (Update clock)) bytes = Some (update clock (drop (header_length (Update clock)) bytes))
+call_of (Some (Write clock)) bytes = Some (write clock (zeros seed_size))
+call_of (Some (WideEvent source pool)) bytes = Some (event source pool (drop (header_length (WideEvent source pool)) bytes))
+call_of None bytes = None
 
 -- the call that a line of text makes
 unfoldable pub line_call : List ℕ → Option Call
@@ -79,8 +78,8 @@ pub record LineEffect : Type 0 where
 
 -- a line's call, executed; no call is made for what is no frame
 unfoldable pub executed : Fortuna → Option Call → LineEffect
-executed s none = record { next = s; printed = number_line no_frame }
-executed s (some c) = record { next = (step s c).effect.next; printed = outcome_line c (step s c) }
+executed s None = record { next = s; printed = number_line no_frame }
+executed s (Some c) = record { next = (step s c).effect.next; printed = outcome_line c (step s c) }
 
 -- a line of text on a state
 unfoldable pub line_of : Fortuna → List ℕ → LineEffect

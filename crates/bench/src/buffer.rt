@@ -1,6 +1,6 @@
 // Buffers of which the first places are in use.
 ghost use Rattle.std.specs.Prelude.{◌≡◌};
-ghost use Rattle.bench.specs.Buffers.{zeros, appended, held_after};
+ghost use Rattle.bench.specs.Buffers.{appended, held_after};
 
 use laws::overwrite;
 
@@ -8,20 +8,8 @@ use laws::overwrite;
 pub(crate) fn append(buffer: &mut [u8], held: usize, more: &[u8]) -> usize
     ensures { (buffer.new ≡ appended buffer.old held more.now) × (result ≡ held_after buffer.old held more.now) }
 {
-    let n = buffer.len();
-    if n <= held {
-        return n;
-    }
+    let held = held.min(buffer.len());
+    let stored = more.len().min(buffer.len() - held);
     overwrite(&mut buffer[held..], more);
-    if more.len() < n - held {
-        return held + more.len();
-    }
-    n
-}
-
-// The bytes of the largest request, all zero.
-pub(crate) fn zero_buffer() -> [u8; 65535]
-    ensures { result ≡ zeros 65535 }
-{
-    [0u8; 65535]
+    held + stored
 }

@@ -1,43 +1,29 @@
 // Capital hexadecimal, two digits a byte.
-ghost use Rattle.std.specs.Prelude.{◌≡◌, ◌++◌, ◌+◌, ◌*◌, ◌/◌, ◌≤◌, ◌<◌, length, take, drop};
+ghost use Rattle.std.specs.Prelude.{◌≡◌, ◌++◌, ◌+◌, ◌*◌, ◌/◌, ◌≤◌, ◌<◌, length, drop};
 ghost use Rattle.bench.specs.Hexadecimal.{is_digit, digit_value, digit_character, decode_hex, encode_hex, all_digits, is_hex};
 
-// Whether a character is a digit: 0 to 9, A to F.
+// Whether a character is a digit.
+#[tactic(auto, unfolding(crate::specs::Hexadecimal::is_digit, crate::specs::Hexadecimal::is_decimal, crate::specs::Hexadecimal::is_capital))]
 fn is_digit(c: u8) -> bool
     ensures { result ≡ is_digit c }
 {
-    if c < 48 {
-        return false;
-    }
-    if c <= 57 {
-        return true;
-    }
-    if c < 65 {
-        return false;
-    }
-    c <= 70
+    matches!(c, b'0'..=b'9' | b'A'..=b'F')
 }
 
 // What a digit stands for; 0 for any other character.
+#[tactic(auto, unfolding(crate::specs::Hexadecimal::digit_value, crate::specs::Hexadecimal::is_decimal, crate::specs::Hexadecimal::is_capital))]
 fn digit_value(c: u8) -> u8
     ensures { result ≡ digit_value c }
 {
-    if c < 48 {
-        return 0;
+    match c {
+        b'0'..=b'9' => c - b'0',
+        b'A'..=b'F' => c - b'A' + 10,
+        _ => 0,
     }
-    if c <= 57 {
-        return c - 48;
-    }
-    if c < 65 {
-        return 0;
-    }
-    if c <= 70 {
-        return c - 55;
-    }
-    0
 }
 
 // The byte that two digits stand for.
+#[tactic(auto, using(crate::proofs::Hexadecimal::digit_small))]
 fn byte(high: u8, low: u8) -> u8
     ensures { result ≡ 16 * digit_value high + digit_value low }
 {
@@ -45,26 +31,23 @@ fn byte(high: u8, low: u8) -> u8
 }
 
 // Whether every character is a digit. All are looked at, so that the compiler can take several at once.
+// Kept: (b) a test that ends at the first other character took 809 of a line's 1,729 instructions (docs/BENCHMARKS.md).
 fn all_digits(text: &[u8]) -> bool
     ensures { result ≡ all_digits text.now }
 {
     let mut digits = true;
-    let mut i = 0;
-    while i < text.len() {
-        digits = digits & is_digit(text[i]);
-        i += 1;
+    for c in text {
+        digits &= is_digit(*c);
     }
     digits
 }
 
 // Whether a text is digits alone, and an even number of them.
+#[tactic(auto, unfolding(crate::specs::Hexadecimal::is_hex))]
 pub(crate) fn is_hex(text: &[u8]) -> bool
     ensures { result ≡ is_hex text.now }
 {
-    if text.len() % 2 == 0 {
-        return all_digits(text);
-    }
-    false
+    text.len() % 2 == 0 && all_digits(text)
 }
 
 // The bytes of a text, at the front of out.
@@ -72,32 +55,29 @@ pub(crate) fn decode(text: &[u8], out: &mut [u8])
     requires { length text.now / 2 ≤ length out.old }
     ensures { out.new ≡ decode_hex text.now ++ drop (length text.now / 2) out.old }
 {
-    let n = text.len() / 2;
-    let mut i = 0;
-    while i < n {
+    // Kept: (d) `zip` with `chunks_exact(2)` gives slices, of which `pair[0]` and `pair[1]` would be taken by index all the same.
+    for i in 0..text.len() / 2 {
         out[i] = byte(text[2 * i], text[2 * i + 1]);
-        i += 1;
     }
 }
 
 // The digit that stands for a number below 16.
+#[tactic(auto, unfolding(crate::specs::Hexadecimal::digit_character))]
 fn digit_character(n: u8) -> u8
     requires { n < 16 }
     ensures { result ≡ digit_character n }
 {
-    if n < 10 { 48 + n } else { 55 + n }
+    if n < 10 { b'0' + n } else { b'A' + n - 10 }
 }
 
-// The text of bytes, in out from a place on.
-pub(crate) fn encode(bytes: &[u8], out: &mut [u8], at: usize)
-    requires { at + 2 * length bytes.now ≤ length out.old }
-    ensures { out.new ≡ take at out.old ++ encode_hex bytes.now ++ drop (at + 2 * length bytes.now) out.old }
+// The text of bytes, at the front of out.
+pub(crate) fn encode(bytes: &[u8], out: &mut [u8])
+    requires { 2 * length bytes.now ≤ length out.old }
+    ensures { out.new ≡ encode_hex bytes.now ++ drop (2 * length bytes.now) out.old }
 {
-    let mut i = 0;
-    while i < bytes.len() {
-        let b = bytes[i];
-        out[at + 2 * i] = digit_character(b / 16);
-        out[at + 2 * i + 1] = digit_character(b % 16);
-        i += 1;
+    // Kept: (d) `zip` with `chunks_exact_mut(2)` gives slices, of which `pair[0]` and `pair[1]` would be stored by index all the same.
+    for i in 0..bytes.len() {
+        out[2 * i] = digit_character(bytes[i] / 16);
+        out[2 * i + 1] = digit_character(bytes[i] % 16);
     }
 }

@@ -23,28 +23,24 @@ pub struct StepOutcome {
 pub fn line_length(chunk: &[u8]) -> usize
     ensures { result ≡ length (first_line chunk.now) }
 {
-    let mut i = 0;
-    while i < chunk.len() {
-        if chunk[i] == 10 {
-            return i;
-        }
-        i += 1;
-    }
-    i
+    chunk
+        .iter()
+        .position(|c| *c == b'\n')
+        .unwrap_or(chunk.len())
 }
 
 // The line so far.
 fn held_line(text: &[u8], held: usize) -> &[u8]
     ensures { result.now ≡ take held text.now }
 {
-    if held < text.len() {
-        return &text[..held];
-    }
-    text
+    &text[..held.min(text.len())]
 }
 
+// Kept: (a) `state`, `text` and `held` side by side, here and in `finish`: a struct in their place would change the signatures of public functions,
+// and `text` is one of the caller's buffers (no heap), which a state given by value would copy.
 // A step over what is left of a chunk: it adds the characters before the first line feed to the line so far, and carries
 // the line out if a line feed ends it.
+// Kept: the line so far is a buffer and a length beside it, since StepOutcome (repr(C), its fields stay) gives the length back.
 pub fn step(
     state: Fortuna,
     text: &mut [u8; LINE_BUFFER],
@@ -65,9 +61,8 @@ pub fn step(
         };
     }
     let o = line(state, held_line(text, now_held), out);
-    let next = o.next;
     StepOutcome {
-        next,
+        next: o.next,
         held: 0,
         used: n + 1,
         written: o.written,
@@ -86,6 +81,5 @@ pub fn finish(
     if held == 0 {
         return 0;
     }
-    let o = line(state, held_line(text, held), out);
-    o.written
+    line(state, held_line(text, held), out).written
 }

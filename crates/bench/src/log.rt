@@ -8,32 +8,21 @@ use crate::input::{LINE_BUFFER, finish, step};
 use crate::line::MAX_OUTPUT;
 use pools::Fortuna;
 
-// Room for a line.
-fn line_buffer() -> [u8; LINE_BUFFER] {
-    [0u8; LINE_BUFFER]
-}
-
-// Room for what a line prints.
-fn output_buffer() -> [u8; MAX_OUTPUT] {
-    [0u8; MAX_OUTPUT]
-}
-
 // What a log prints from a fresh state, at the front of out, as many characters as there is room for. Returns how many were stored.
 pub fn log(input: &[u8], out: &mut [u8]) -> usize
     ensures { (result ≡ min (length (transcript input.now)) (length out.old)) × (out.new ≡ overwrite out.old (transcript input.now)) }
 {
-    let mut text = line_buffer();
-    let mut printed = output_buffer();
+    let mut text = [0u8; LINE_BUFFER];
+    let mut printed = [0u8; MAX_OUTPUT];
     let mut state = Fortuna::new();
     let mut held = 0;
     let mut at = 0;
     let mut stored = 0;
+    // Kept: (d) a turn goes on by as many characters as `step` used, known only when it is done: no `for` has that step.
     while at < input.len() {
         let o = step(state, &mut text, held, &input[at..], &mut printed);
-        let n = o.written;
-        stored = append(out, stored, &printed[..n]);
-        let next = o.next;
-        state = next;
+        stored = append(out, stored, &printed[..o.written]);
+        state = o.next;
         held = o.held;
         at += o.used;
     }

@@ -4,24 +4,29 @@ ghost use Rattle.laws.specs.Lists.{overwrite};
 ghost use Rattle.bench.specs.Lines.{number_line, output_line};
 
 use crate::hex::encode;
+use laws::overwrite;
 
 // The digit of a number below 10.
 fn decimal_digit(n: u32) -> u8
     requires { n < 10 }
     ensures { result ≡ 48 + n }
 {
-    48 + n as u8
+    b'0' + n as u8
 }
 
 // A number below 100 in two decimal digits, and the line feed.
+#[tactic(auto, unfolding(crate::specs::Lines::number_line, crate::specs::Hexadecimal::decimal))]
 pub(crate) fn number_line(number: u32, out: &mut [u8]) -> usize
     requires { (number < 100) × (3 ≤ length out.old) }
     ensures { (result ≡ length (number_line number)) × (out.new ≡ overwrite out.old (number_line number)) }
 {
-    out[0] = decimal_digit(number / 10);
-    out[1] = decimal_digit(number % 10);
-    out[2] = 10;
-    3
+    let line = [
+        decimal_digit(number / 10),
+        decimal_digit(number % 10),
+        b'\n',
+    ];
+    overwrite(out, &line);
+    line.len()
 }
 
 // The line of a request, an update or a write.
@@ -32,18 +37,16 @@ pub(crate) fn output_line(number: u32, emptied: u32, bytes: &[u8], out: &mut [u8
     if number != 0 {
         return number_line(number, out);
     }
-    out[0] = 48;
-    out[1] = 48;
-    out[2] = 32;
-    out[3] = decimal_digit(emptied / 10);
-    out[4] = decimal_digit(emptied % 10);
-    let n = bytes.len();
-    if n == 0 {
-        out[5] = 10;
-        return 6;
+    let tens = decimal_digit(emptied / 10);
+    let ones = decimal_digit(emptied % 10);
+    if bytes.is_empty() {
+        let line = [b'0', b'0', b' ', tens, ones, b'\n'];
+        overwrite(out, &line);
+        return line.len();
     }
-    out[5] = 32;
-    encode(bytes, out, 6);
-    out[6 + 2 * n] = 10;
-    7 + 2 * n
+    overwrite(out, &[b'0', b'0', b' ', tens, ones, b' ']);
+    encode(bytes, &mut out[6..]);
+    let n = 6 + 2 * bytes.len();
+    out[n] = b'\n';
+    n + 1
 }

@@ -5,7 +5,7 @@ use mathlib.Core.Path.{◌≡◌, refl, sym, ap, ap₂, ◌∙◌}
 use mathlib.Core.List.{List, ◌++◌}
 use native.Mathlib.Nat.{add-suc, add-zero}
 use native.Mathlib.Omega.{arith}
-use lib.ListN.{length, take, length-append}
+use lib.ListN.{length, take, length-append, length-drop}
 use lib.Seq.{paste, take-paste, length-paste, take_all, take_at, take-append-le, get_or-take, get_or-append-add}
 use Rattle.laws.specs.Lists.{overwrite}
 use Rattle.laws.proofs.Copy.{overwrite-fits}
@@ -37,36 +37,29 @@ length-expand key (suc n) = rw (length-append, length-expand key n, next-length)
 
 -- the words before i are stored
 abbrev pub Expanded : List ℕ → List ℕ → ℕ → Type 0
-Expanded key w i = (8 ≤ i) × (i ≤ 60) × (length w ≡ 240) × (take (4 * i) w ≡ expand key (i - 8))
+Expanded key w i = (length w ≡ 240) × (take (4 * i) w ≡ expand key (i - 8))
 
 -- those before 8 are the key
-pub expanded-none : (w : List ℕ) → length w ≡ 240 → Expanded (take 32 w) w 8
+pub expanded-none : (zeros key : List ℕ) → length zeros ≡ 240 → length key ≡ 32 → Expanded key (overwrite zeros key) 8
 unfolding expand
-expanded-none w l = (omega arith, omega arith, l, refl)
+expanded-none zeros key z k = rw (overwrite-fits zeros key (omega arith)) (simp (length-append, length-drop) (omega arith), take_at key _ 32 k)
 
-pub key-first : (zeros key : List ℕ) → length zeros ≡ 240 → length key ≡ 32 → take 32 (overwrite zeros key) ≡ key
-key-first zeros key z k = rw (overwrite-fits zeros key (omega arith)) (take_at key _ 32 k)
-
-pub expanded-more : (key w w' t : List ℕ) (i : ℕ) → Expanded key w i → i < 60
+pub expanded-more : (key w w' t : List ℕ) (i : ℕ) → Expanded key w i → 8 ≤ i → i < 60
     → t ≡ next_word w i → w' ≡ paste w (4 * i) t 4 → Expanded key w' (i + 1)
 unfolding expand with_next_word
-expanded-more key w w' t i (low, high, l, e) h et ew =
+expanded-more key w w' t i (l, e) low h et ew =
     let lt : length t ≡ 4 = ap length et ∙ next-length w i in
     let m : 4 * (i + 1) ≡ 4 * i + 4 = omega arith in
     let k : i + 1 - 8 ≡ suc (i - 8) = omega arith in
     let k' : 8 + (i - 8) ≡ i = omega arith in (
-      omega arith,
-      omega arith,
       ap length ew ∙ length-paste w (4 * i) t 4 (omega arith) (omega arith) ∙ l,
       rw (m, ew, take-paste w (4 * i) t 4 (omega arith) (omega arith), take_all 4 t (omega arith), k, k')
           (rw (← e, next-in w i low, ← et) refl),
     )
 
-pub expanded-all : (key w : List ℕ) (i : ℕ) → Expanded key w i → 60 ≤ i → w ≡ key_expansion key
+pub expanded-all : (key w : List ℕ) (i : ℕ) → Expanded key w i → i ≡ 60 → w ≡ key_expansion key
 unfolding key_expansion
-expanded-all key w i (low, high, l, e) h =
-    let d : i ≡ 60 = omega arith in
-    sym (take_all 240 w (omega arith)) ∙ rw d at e
+expanded-all key w i (l, e) d = sym (take_all 240 w (omega arith)) ∙ rw d at e
 
 -- ---- each word of a schedule is the next of those before
 

@@ -1,34 +1,29 @@
 // A block enciphered.
 ghost use Rattle.std.specs.Prelude.{◌≡◌, ◌<◌};
-ghost use Rattle.cipher.specs.Field.{s_box};
 ghost use Rattle.cipher.specs.Aes.{round, cipher_with, cipher};
 
-use crate::field::s_box;
 use crate::key::{Schedule, expand_key};
 use crate::state::{add_round_key, mix_columns, shift_rows, sub_bytes};
 
-fn round(table: &[u8; 256], schedule: &[u8; 240], n: usize, state: [u8; 16]) -> [u8; 16]
-    requires { (n < 15) × (table.now ≡ s_box) }
+#[tactic(auto, unfolding(crate::specs::Aes::round))]
+fn round(schedule: &[u8; 240], n: usize, state: [u8; 16]) -> [u8; 16]
+    requires { n < 15 }
     ensures { result ≡ round schedule.now n state }
 {
-    add_round_key(
-        schedule,
-        n,
-        mix_columns(shift_rows(sub_bytes(table, state))),
-    )
+    add_round_key(schedule, n, mix_columns(shift_rows(sub_bytes(state))))
 }
 
 // All rounds, over a lent schedule.
 fn encrypt_block(schedule: &[u8; 240], block: [u8; 16]) -> [u8; 16]
     ensures { result ≡ cipher_with schedule.now block }
 {
-    let table = s_box();
     let mut state = add_round_key(schedule, 0, block);
     for n in 1..14 {
-        let next = round(&table, schedule, n, state);
+        // Kept: (c) `state = round(.., state)` is not proved, since state is an array that the call is passed too.
+        let next = round(schedule, n, state);
         state = next;
     }
-    add_round_key(schedule, 14, shift_rows(sub_bytes(&table, state)))
+    add_round_key(schedule, 14, shift_rows(sub_bytes(state)))
 }
 
 // A block under an expanded key.
@@ -39,6 +34,7 @@ pub fn encrypt_with(schedule: Schedule, block: [u8; 16]) -> [u8; 16]
 }
 
 // A block under a key.
+#[tactic(auto, unfolding(crate::specs::Aes::cipher))]
 pub fn encrypt(key: [u8; 32], block: [u8; 16]) -> [u8; 16]
     ensures { result ≡ cipher key block }
 {

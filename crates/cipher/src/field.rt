@@ -2,19 +2,18 @@
 ghost use Rattle.std.specs.Prelude.{◌≡◌};
 ghost use Rattle.cipher.specs.Field.{xtime, sub_byte, s_box};
 
-// The S-box. A constant is built anew wherever it is used, so callers build it once and lend it.
-pub fn s_box() -> [u8; 256]
-    ensures { result ≡ s_box }
+// The S-box.
+pub fn s_box() -> &'static [u8; 256]
+    ensures { result.now ≡ s_box }
 {
-    SBOX
+    &S_BOX
 }
 
-// The substitution of a byte, read from the S-box.
-pub(crate) fn sub_byte(table: &[u8; 256], x: u8) -> u8
-    requires { table.now ≡ s_box }
+// The substitution of a byte.
+pub fn sub_byte(x: u8) -> u8
     ensures { result ≡ sub_byte x }
 {
-    table[x as usize]
+    s_box()[x as usize]
 }
 
 // A byte times x, by arithmetic on its top bit: power traces show a branch.
@@ -25,7 +24,7 @@ pub(crate) fn double(x: u8) -> u8
 }
 
 // Figure 7 of FIPS 197, row after row.
-const SBOX: [u8; 256] = [
+static S_BOX: [u8; 256] = [
     0x63, 0x7c, 0x77, 0x7b, 0xf2, 0x6b, 0x6f, 0xc5, 0x30, 0x01, 0x67, 0x2b, 0xfe, 0xd7, 0xab, 0x76,
     0xca, 0x82, 0xc9, 0x7d, 0xfa, 0x59, 0x47, 0xf0, 0xad, 0xd4, 0xa2, 0xaf, 0x9c, 0xa4, 0x72, 0xc0,
     0xb7, 0xfd, 0x93, 0x26, 0x36, 0x3f, 0xf7, 0xcc, 0x34, 0xa5, 0xe5, 0xf1, 0x71, 0xd8, 0x31, 0x15,

@@ -7,5 +7,5 @@ mod key;
 mod state;
 
 pub use block::{encrypt, encrypt_with};
-pub use field::s_box;
+pub use field::{s_box, sub_byte};
 pub use key::{Schedule, expand_key};

@@ -11,9 +11,10 @@ use lib.ListN.{length, length-append}
 use borrow.Author.Tests.{ltb-true, ltb-false}
 use Rattle.laws.specs.Lists.{joined}
 use Rattle.laws.proofs.Cases.{by-test}
+use Rattle.std.specs.Prelude.{Option, Some, None}
 use Rattle.bench.specs.Frames.{frame_of_text}
 use Rattle.bench.specs.declared.frame.Frame.{Frame}
-use Rattle.bench.specs.declared.frame.Frame.TheVariants.{Event, Request, Update, Write, WideEvent, Invalid}
+use Rattle.bench.specs.declared.frame.Frame.TheVariants.{Event, Request, Update, Write, WideEvent}
 use Rattle.bench.proofs.Hexadecimal.{length-decode}
 use Rattle.convert.specs.Texts.{max_narrow_source, is_wanted, text_number, converted}
 use Rattle.convert.specs.Logs.{Line, end_of, whole_line, log_lines, written_of, Conversion, converted_lines, conversion}
@@ -26,14 +27,14 @@ use Rattle.convert.proofs.Conversions.{LineAccepted, RoomRefused, TextRefused, w
 -- ---- how a line grows
 
 -- 01 of 6 characters or more gains two
-longer : (text : List ℕ) (source pool : ℕ) → frame_of_text text ≡ Event source pool → 3 * length (converted true text) ≤ 4 * length text
+longer : (text : List ℕ) (source pool : ℕ) → frame_of_text text ≡ Some (Event source pool) → 3 * length (converted true text) ≤ 4 * length text
 longer text source pool e =
     let s = shape text source pool e in
     let before : length text ≡ 2 + length s.rest = ap length s.is ∙ omega arith in
     let new : length (converted true text) ≡ 4 + length s.rest = ap length (wider-text text source pool e) ∙ omega arith in
     omega (arith, before, new, s.fields.long, length-decode s.rest)
 
-shorter : (text : List ℕ) (source pool : ℕ) (e : frame_of_text text ≡ WideEvent source pool) → source ≤ max_narrow_source
+shorter : (text : List ℕ) (source pool : ℕ) (e : frame_of_text text ≡ Some (WideEvent source pool)) → source ≤ max_narrow_source
     → length (converted false text) ≤ length text
 shorter text source pool e h =
     let before : length text ≡ 4 + length (wide-shape text source pool e).rest = ap length (high_zero text source pool e h) ∙ omega arith in
@@ -45,26 +46,26 @@ shorter text source pool e h =
 same_size : (wide : Bool) (text : List ℕ) → is_wanted wide (frame_of_text text) ≡ true → length (converted wide text) ≡ length text
 same_size wide text w = ap length ((line-laws text).unchanged wide w).1
 
-wide-size : (text : List ℕ) (f : Frame) → frame_of_text text ≡ f → text_number true text ≡ 0 → 3 * length (converted true text) ≤ 4 * length text
+wide-size : (text : List ℕ) (f : Option Frame) → frame_of_text text ≡ f → text_number true text ≡ 0 → 3 * length (converted true text) ≤ 4 * length text
 unfolding is_wanted
-wide-size text (Event source pool) e n = longer text source pool e
-wide-size text (Request clock count) e n = omega (arith, same_size true text (ap (is_wanted true) e))
-wide-size text (Update clock) e n = omega (arith, same_size true text (ap (is_wanted true) e))
-wide-size text (Write clock) e n = omega (arith, same_size true text (ap (is_wanted true) e))
-wide-size text (WideEvent source pool) e n = omega (arith, same_size true text (ap (is_wanted true) e))
-wide-size text Invalid e n = let z : text_number true text ≡ 16 = (stray-text true text).1 e in absurd (omega arith)
+wide-size text (Some (Event source pool)) e n = longer text source pool e
+wide-size text (Some (Request clock count)) e n = omega (arith, same_size true text (ap (is_wanted true) e))
+wide-size text (Some (Update clock)) e n = omega (arith, same_size true text (ap (is_wanted true) e))
+wide-size text (Some (Write clock)) e n = omega (arith, same_size true text (ap (is_wanted true) e))
+wide-size text (Some (WideEvent source pool)) e n = omega (arith, same_size true text (ap (is_wanted true) e))
+wide-size text None e n = let z : text_number true text ≡ 16 = (stray-text true text).1 e in absurd (omega arith)
 
-narrow_size : (text : List ℕ) (f : Frame) → frame_of_text text ≡ f → text_number false text ≡ 0 → length (converted false text) ≤ length text
+narrow_size : (text : List ℕ) (f : Option Frame) → frame_of_text text ≡ f → text_number false text ≡ 0 → length (converted false text) ≤ length text
 unfolding is_wanted
-narrow_size text (Event source pool) e n = omega (arith, same_size false text (ap (is_wanted false) e))
-narrow_size text (Request clock count) e n = omega (arith, same_size false text (ap (is_wanted false) e))
-narrow_size text (Update clock) e n = omega (arith, same_size false text (ap (is_wanted false) e))
-narrow_size text (Write clock) e n = omega (arith, same_size false text (ap (is_wanted false) e))
-narrow_size text (WideEvent source pool) e n =
+narrow_size text (Some (Event source pool)) e n = omega (arith, same_size false text (ap (is_wanted false) e))
+narrow_size text (Some (Request clock count)) e n = omega (arith, same_size false text (ap (is_wanted false) e))
+narrow_size text (Some (Update clock)) e n = omega (arith, same_size false text (ap (is_wanted false) e))
+narrow_size text (Some (Write clock)) e n = omega (arith, same_size false text (ap (is_wanted false) e))
+narrow_size text (Some (WideEvent source pool)) e n =
     by-test (ltb max_narrow_source source) (length (converted false text) ≤ length text)
     (λ t. absurd (let z : text_number false text ≡ 43 = large-number text source pool e (ltb-true max_narrow_source source t) in omega arith))
     (λ t. shorter text source pool e (ltb-false max_narrow_source source t))
-narrow_size text Invalid e n = let z : text_number false text ≡ 16 = (stray-text false text).1 e in absurd (omega arith)
+narrow_size text None e n = let z : text_number false text ≡ 16 = (stray-text false text).1 e in absurd (omega arith)
 
 -- ---- enough room
 

@@ -15,8 +15,9 @@ use Rattle.laws.specs.Lists.{overwrite}
 use Rattle.laws.proofs.Copy.{overwrite-fits, part_end}
 use Rattle.bench.proofs.Buffers.{overwrite-nothing}
 use Rattle.convert.specs.Logs.{end_of}
-use Rattle.convert.specs.Promises.{number, StoresText, PartsStored, EndStored}
-use Rattle.convert.specs.declared.answer.Answer.TheVariants.{Converted, NoRoom}
+use Rattle.convert.specs.Promises.{StoresText, PartsStored, EndStored}
+use Rattle.convert.specs.declared.refusal.Refusal.TheVariants.{NoRoom}
+use Rattle.std.specs.Prelude.{Ok, Err}
 
 -- how long an end is
 pub end-one : (ended : Bool) → ended ≡ true → length (end_of ended) ≡ 1
@@ -72,10 +73,10 @@ module _ (out front rest : List ℕ) (ended : Bool) where
   length_whole = rw (length-append, length-append)
 
   pub put-nothing : (size : ℕ) → size ≡ length (end_of ended) → length out < before + size
-      → StoresText whole (record { answer = NoRoom; written = 0 }) out out
+      → StoresText whole (Err NoRoom) out out
   put-nothing size e h =
       let t : ltb (length out) (length whole) ≡ true = lt-ltb (length out) (length whole) (omega (arith, length_whole)) in
-      rw t (record { number_is = unfold number in refl; written_is = refl; buffer-is = sym (overwrite-nothing out) })
+      rw t (record { number_is = refl; written_is = refl; buffer-is = sym (overwrite-nothing out) })
 
   -- d is the buffer with the parts in it, and d' with the end too
   module _ (d d' : List ℕ) (p : PartsStored front rest out d) (q : EndStored ended before d d') where
@@ -94,10 +95,10 @@ module _ (out front rest : List ℕ) (ended : Bool) where
         ∙ drop-drop (length (end_of ended)) before out
 
     pub put_all : (size : ℕ) → size ≡ length (end_of ended) → before + size ≤ length out
-        → StoresText whole (record { answer = Converted; written = before + size }) out d'
+        → StoresText whole (Ok (before + size)) out d'
     put_all size e h =
         let t : ltb (length out) (length whole) ≡ false = le-ltb (length out) (length whole) (omega (arith, length_whole)) in
         let stored : d' ≡ overwrite out whole =
         q ∙ rw (front-is, back_is)
         (sym (append_assoc (front ++ rest) (end_of ended) _) ∙ sym (overwrite-fits out whole (omega (arith, length_whole)) ∙ rw length_whole)) in
-        rw t (record { number_is = unfold number in refl; written_is = omega (arith, length_whole); buffer-is = stored })
+        rw t (record { number_is = refl; written_is = omega (arith, length_whole); buffer-is = stored })

@@ -9,15 +9,16 @@ use native.Mathlib.Omega.{arith}
 use lib.ListN.{length, take, drop, length-append, length-drop, take-append-drop, drop_of_length-le}
 use lib.Seq.{drop-drop, take_at, drop_at, length-take-le}
 use borrow.Author.Tests.{eq-eqb, ne_eqb}
+use Rattle.std.specs.Prelude.{Ok, Err}
 use Rattle.laws.specs.Lists.{overwrite}
 use Rattle.laws.proofs.Copy.{overwrite-fits, part_end}
 use Rattle.bench.specs.Input.{used_by}
 use Rattle.bench.proofs.Buffers.{overwrite-nothing}
 use Rattle.bench.proofs.Lines.{used-more, used-fits}
 use Rattle.convert.specs.Logs.{Line, log_lines, written_of, refusal_of, Conversion, all_written, with_bytes, converted_lines, conversion}
-use Rattle.convert.specs.Promises.{number, line_writes, Gives, first_of, ConvertsFirst}
-use Rattle.convert.specs.declared.line.FirstAnswer.{FirstAnswer}
-use Rattle.convert.specs.declared.answer.Answer.TheVariants.{Converted}
+use Rattle.convert.specs.Promises.{code, code-above-0, number, written_bytes, line_writes, Gives, first_of, ConvertsFirst}
+use Rattle.convert.specs.declared.line.FirstLine.{FirstLine}
+use Rattle.convert.specs.declared.refusal.Refusal.{Refusal}
 use Rattle.convert.proofs.LogLines.{lines_none, lines-first}
 use Rattle.convert.proofs.Conversions.{line-accepted, goes_on, stops, no_lines, with-with, number-with}
 use Rattle.convert.proofs.FirstRefused.{first-refused}
@@ -55,10 +56,6 @@ front-is out₀ out n h e r =
     let size : length (take n out) ≡ n = length-take-le n out (omega arith) in
     sym (take-append-drop n out) ∙ ap (λ (x : List ℕ). take n out ++ x) (r ∙ ap (λ (k : ℕ). drop k out₀) (sym size))
     ∙ sym (overwrite-fits out₀ (take n out) (omega (arith, size)))
-
-done-number : number Converted ≡ 0
-unfolding number
-done-number = refl
 
 line-with : (bytes : List ℕ) (c : Conversion) → (with_bytes bytes c).line ≡ c.line
 unfolding with_bytes
@@ -99,7 +96,7 @@ module _ (wide : Bool) (log out₀ out : List ℕ) (at line written : ℕ) (w : 
       ap (λ (x : Conversion). x.written) e ∙ (unfold with_bytes in ap (λ (x : List ℕ). take written out ++ x) none ∙ append-nil (take written out)) in
       (sym (ap length all ∙ front-size), front-is out₀ out written w.room w.kept w.rest ∙ ap (overwrite out₀) (sym all))
 
-  pub walk_ends : length log ≤ at → Gives (conversion wide (length out₀) log) (record { answer = Converted; line = 0; written = written }) out₀ out
+  pub walk_ends : length log ≤ at → Gives (conversion wide (length out₀) log) (record { answer = Ok tt; written = written }) out₀ out
   walk_ends h =
       let none : ahead ≡ [] = drop_of_length-le log {i = at} h in
       let e : conversion wide (length out₀) log ≡ with_bytes (take written out) (all_written []) =
@@ -107,7 +104,7 @@ module _ (wide : Bool) (log out₀ out : List ℕ) (at line written : ℕ) (w : 
       ∙ ap (converted_lines wide (length out₀ - written) line) lines_none ∙ no_lines wide (length out₀ - written) line) in
       let s = so_far (all_written []) e refl in
       record {
-        number_is = done-number ∙ sym (ap (λ (x : Conversion). x.number) e ∙ number-with (take written out) (all_written []));
+        number_is = sym (ap (λ (x : Conversion). x.number) e ∙ number-with (take written out) (all_written []));
         line-is = sym (ap (λ (x : Conversion). x.line) e ∙ line-with (take written out) (all_written []));
         written_is = s.0;
         fits = (first-refused wide (length out₀) log).fits;
@@ -115,7 +112,7 @@ module _ (wide : Bool) (log out₀ out : List ℕ) (at line written : ℕ) (w : 
       }
 
   -- a line more
-  module _ (inside : at < length log) (o : FirstAnswer) (part' : List ℕ)
+  module _ (inside : at < length log) (o : FirstLine) (part' : List ℕ)
       (g : ConvertsFirst wide (take (length log - at) (drop at log)) o part part') where
     rest-is : take (length log - at) (drop at log) ≡ ahead
     rest-is = part_end at log
@@ -155,7 +152,7 @@ module _ (wide : Bool) (log out₀ out : List ℕ) (at line written : ℕ) (w : 
         w.whole
         ∙ ap₂ (λ (k : ℕ) (ls : List Line). with_bytes (take written out) (converted_lines wide k line ls)) (sym part_room) lines-here
 
-    number_is : number o.answer ≡ refusal_of wide (length part) here
+    number_is : number o.written ≡ refusal_of wide (length part) here
     number_is = g.converts.number_is ∙ ap (refusal_of wide (length part)) same_here
 
     bytes-are : line_writes wide (length part) (first_of (take (length log - at) (drop at log))) ≡ line_writes wide (length part) here
@@ -166,9 +163,12 @@ module _ (wide : Bool) (log out₀ out : List ℕ) (at line written : ℕ) (w : 
 
     -- ---- it is refused
 
-    module _ (refused : number o.answer ≡ 0 → ⊥) where
+    module _ (refusal : Refusal) (refused : o.written ≡ Err refusal) where
+      code-is : code refusal ≡ refusal_of wide (length part) here
+      code-is = sym (ap number refused) ∙ number_is
+
       some : refusal_of wide (length part) here ≡ 0 → ⊥
-      some e = refused (number_is ∙ e)
+      some e = omega (arith, code-is, code-above-0 refusal, e)
 
       same_out : out' ≡ out
       same_out =
@@ -176,16 +176,14 @@ module _ (wide : Bool) (log out₀ out : List ℕ) (at line written : ℕ) (w : 
           let e : part' ≡ part = g.converts.buffer-is ∙ ap (overwrite part) none ∙ overwrite-nothing part in
           rw (e, take-append-drop (length out - written) (drop written out)) (take-append-drop written out)
 
-      pub walk_kept : length out' ≡ length out₀
-      walk_kept = ap length same_out ∙ w.kept
-
-      pub walk-stops : Gives (conversion wide (length out₀) log) (record { answer = o.answer; line = line; written = written }) out₀ out'
+      pub walk-stops : Gives (conversion wide (length out₀) log)
+          (record { answer = Err (record { line = line; refusal = refusal }); written = written }) out₀ out'
       walk-stops =
           let end = stops wide (length part) line here behind some in
           let e = whole_here ∙ ap (with_bytes (take written out)) end in
           let s = so_far (record { written = []; number = refusal_of wide (length part) here; line = line }) e refl in
           record {
-            number_is = number_is ∙ sym (ap (λ (x : Conversion). x.number) e ∙ number-with (take written out) _);
+            number_is = code-is ∙ sym (ap (λ (x : Conversion). x.number) e ∙ number-with (take written out) _);
             line-is = sym (ap (λ (x : Conversion). x.line) e ∙ line-with (take written out) _);
             written_is = s.0;
             fits = (first-refused wide (length out₀) log).fits;
@@ -194,9 +192,9 @@ module _ (wide : Bool) (log out₀ out : List ℕ) (at line written : ℕ) (w : 
 
     -- ---- it is written
 
-    module _ (taken : number o.answer ≡ 0) where
+    module _ (count : ℕ) (taken : o.written ≡ Ok count) where
       none : refusal_of wide (length part) here ≡ 0
-      none = sym number_is ∙ taken
+      none = sym number_is ∙ ap number taken
 
       abbrev new : List ℕ
       new = written_of wide here
@@ -204,42 +202,42 @@ module _ (wide : Bool) (log out₀ out : List ℕ) (at line written : ℕ) (w : 
       new-fits : length new ≤ length part
       new-fits = (line-accepted wide (length part) here none).fits
 
-      new-size : o.written ≡ length new
-      new-size = g.converts.written_is ∙ ap length (bytes-are ∙ writes-all wide (length part) here none)
+      new-size : count ≡ length new
+      new-size = sym (ap written_bytes taken) ∙ g.converts.written_is ∙ ap length (bytes-are ∙ writes-all wide (length part) here none)
 
-      out-is : out' ≡ (take written out ++ new) ++ drop (written + o.written) out₀
+      out-is : out' ≡ (take written out ++ new) ++ drop (written + count) out₀
       out-is =
           let z : drop (length out - written) (drop written out) ≡ [] =
           drop_of_length-le (drop written out) {i = length out - written} (le_of_eq (length-drop written out)) in
-          let p : part' ≡ new ++ drop (written + o.written) out₀ =
+          let p : part' ≡ new ++ drop (written + count) out₀ =
           g.converts.buffer-is ∙ ap (overwrite part) (bytes-are ∙ writes-all wide (length part) here none) ∙ overwrite-fits part new new-fits
-          ∙ ap (λ (x : List ℕ). new ++ x) (ap₂ drop (sym new-size) part-is ∙ drop-drop o.written written out₀) in
-          rw (z, append-nil part', p) (sym (append_assoc (take written out) new (drop (written + o.written) out₀)))
+          ∙ ap (λ (x : List ℕ). new ++ x) (ap₂ drop (sym new-size) part-is ∙ drop-drop count written out₀) in
+          rw (z, append-nil part', p) (sym (append_assoc (take written out) new (drop (written + count) out₀)))
 
-      new-front : length (take written out ++ new) ≡ written + o.written
+      new-front : length (take written out ++ new) ≡ written + count
       new-front = length-append (take written out) new ∙ omega (arith, front-size, new-size)
 
-      front-now : take (written + o.written) out' ≡ take written out ++ new
-      front-now = ap (take (written + o.written)) out-is ∙ take_at (take written out ++ new) _ (written + o.written) new-front
+      front-now : take (written + count) out' ≡ take written out ++ new
+      front-now = ap (take (written + count)) out-is ∙ take_at (take written out ++ new) _ (written + count) new-front
 
       whole-more : conversion wide (length out₀) log
-          ≡ with_bytes (take (written + o.written) out') (converted_lines wide (length out₀ - (written + o.written)) (line + 1) behind)
+          ≡ with_bytes (take (written + count) out') (converted_lines wide (length out₀ - (written + count)) (line + 1) behind)
       whole-more =
-          let k : length part - length new ≡ length out₀ - (written + o.written) = omega (arith, part_room, new-size) in
+          let k : length part - length new ≡ length out₀ - (written + count) = omega (arith, part_room, new-size) in
           let next : suc line ≡ line + 1 = omega arith in
           whole_here ∙ ap (with_bytes (take written out)) (goes_on wide (length part) line here behind none)
           ∙ with-with (take written out) new (converted_lines wide (length part - length new) (suc line) behind)
           ∙ ap₂ (λ (n m : ℕ). with_bytes (take written out ++ new) (converted_lines wide n m behind)) k next
-          ∙ ap (λ (x : List ℕ). with_bytes x (converted_lines wide (length out₀ - (written + o.written)) (line + 1) behind)) (sym front-now)
+          ∙ ap (λ (x : List ℕ). with_bytes x (converted_lines wide (length out₀ - (written + count)) (line + 1) behind)) (sym front-now)
 
-      pub walk-on : Walked wide log out₀ out' (at + o.used) (line + 1) (written + o.written)
+      pub walk-on : Walked wide log out₀ out' (at + o.used) (line + 1) (written + count)
       walk-on = record {
         within = at-within;
         room = omega (arith, new-fits, new-size, part_room, w.room);
         kept =
-            ap length out-is ∙ length-append (take written out ++ new) (drop (written + o.written) out₀)
-            ∙ omega (arith, new-front, length-drop (written + o.written) out₀, new-fits, new-size, part_room, w.room);
+            ap length out-is ∙ length-append (take written out ++ new) (drop (written + count) out₀)
+            ∙ omega (arith, new-front, length-drop (written + count) out₀, new-fits, new-size, part_room, w.room);
         lines-few = omega (arith, w.lines-few, used-some);
-        rest = ap (drop (written + o.written)) out-is ∙ drop_at (take written out ++ new) _ (written + o.written) new-front;
+        rest = ap (drop (written + count)) out-is ∙ drop_at (take written out ++ new) _ (written + count) new-front;
         whole = whole-more;
       }

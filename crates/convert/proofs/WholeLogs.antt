@@ -4,7 +4,7 @@ use mathlib.Core.Path.{◌≡◌, refl, sym, ap, ap₂, ◌∙◌}
 use mathlib.Core.Bool.{Bool, true, false, true≢false}
 use mathlib.Core.List.{List, [], ◌∷◌, ◌++◌, map}
 use mathlib.Core.Logic.{◌⊎◌, inl, inr}
-use mathlib.Core.Option.{Option}
+use Rattle.std.specs.Prelude.{Option, Some, None}
 use Prim.Native.Nat.{ℕ, zero, suc, ◌+◌, ◌-◌, ◌≤◌, ◌<◌}
 use native.Mathlib.Omega.{arith}
 use lib.Dec.{eqb}
@@ -19,7 +19,7 @@ use Rattle.bench.specs.Frames.{frame_of_text}
 use Rattle.bench.specs.Lines.{line_call}
 use Rattle.bench.specs.Input.{lines, has_line_feed}
 use Rattle.bench.specs.declared.frame.Frame.{Frame}
-use Rattle.bench.specs.declared.frame.Frame.TheVariants.{Event, Request, Update, Write, WideEvent, Invalid}
+use Rattle.bench.specs.declared.frame.Frame.TheVariants.{Event, Request, Update, Write, WideEvent}
 use Rattle.bench.proofs.Model as Model
 use Rattle.bench.proofs.Texts.{frame-characters, frame-feedless}
 use Rattle.convert.specs.Texts.{is_wanted, text_number, converted}
@@ -42,11 +42,11 @@ Each P (l ∷ ls) = P l × Each P ls
 abbrev Passes : Bool → Line → Type 0
 Passes wide l = text_number wide l.text ≡ 0
 
-wanted-frame : (wide : Bool) (f : Frame) → is_wanted wide f ≡ true → f ≡ Invalid → ⊥
+wanted-frame : (wide : Bool) (f : Option Frame) → is_wanted wide f ≡ true → f ≡ None → ⊥
 wanted-frame wide f w e = true≢false (sym w ∙ ap (is_wanted wide) e ∙ (unfold is_wanted in refl))
 
 module _ (wide : Bool) (l : Line) (p : Passes wide l) where
-  new-frame : frame_of_text (converted wide l.text) ≡ Invalid → ⊥
+  new-frame : frame_of_text (converted wide l.text) ≡ None → ⊥
   new-frame = wanted-frame wide _ ((line-laws l.text).wanted wide p)
 
   new-feedless : has_line_feed (converted_line wide l).text ≡ false
@@ -207,15 +207,15 @@ both-kinds text v w =
     let back = (line-laws text).unchanged false w in
     (ap (text_number false) there ∙ back.0, ap (converted false) there ∙ back.1)
 
-round_trip : (text : List ℕ) (f : Frame) → frame_of_text text ≡ f → is_wanted false f ≡ true
+round_trip : (text : List ℕ) (f : Option Frame) → frame_of_text text ≡ f → is_wanted false f ≡ true
     → (text_number false (converted true text) ≡ 0) × (converted false (converted true text) ≡ text)
 unfolding is_wanted
-round_trip text (Event source pool) e w = (line-laws text).trip source pool e
-round_trip text (Request clock count) e w = both-kinds text (ap (is_wanted true) e) (ap (is_wanted false) e)
-round_trip text (Update clock) e w = both-kinds text (ap (is_wanted true) e) (ap (is_wanted false) e)
-round_trip text (Write clock) e w = both-kinds text (ap (is_wanted true) e) (ap (is_wanted false) e)
-round_trip text (WideEvent source pool) e w = absurd (true≢false (sym w))
-round_trip text Invalid e w = absurd (true≢false (sym w))
+round_trip text (Some (Event source pool)) e w = (line-laws text).trip source pool e
+round_trip text (Some (Request clock n)) e w = both-kinds text (ap (is_wanted true) e) (ap (is_wanted false) e)
+round_trip text (Some (Update clock)) e w = both-kinds text (ap (is_wanted true) e) (ap (is_wanted false) e)
+round_trip text (Some (Write clock)) e w = both-kinds text (ap (is_wanted true) e) (ap (is_wanted false) e)
+round_trip text (Some (WideEvent source pool)) e w = absurd (true≢false (sym w))
+round_trip text None e w = absurd (true≢false (sym w))
 
 come-back : (ls : List Line) → Each (Wanted false) ls
     → Each (Passes false) (map (converted_line true) ls) × (joined (written_of false) (map (converted_line true) ls) ≡ joined whole_line ls)
@@ -256,14 +256,14 @@ passes-whole wide room log h enough =
     go s p (inr (inr r)) = absurd (r.some p)
 
 -- a frame that is no 05 can always become of kind 05
-widens : (text : List ℕ) (f : Frame) → frame_of_text text ≡ f → is_wanted false f ≡ true → text_number true text ≡ 0
+widens : (text : List ℕ) (f : Option Frame) → frame_of_text text ≡ f → is_wanted false f ≡ true → text_number true text ≡ 0
 unfolding is_wanted
-widens text (Event source pool) e w = ((line-laws text).wider source pool e).0
-widens text (Request clock count) e w = ((line-laws text).unchanged true (ap (is_wanted true) e)).0
-widens text (Update clock) e w = ((line-laws text).unchanged true (ap (is_wanted true) e)).0
-widens text (Write clock) e w = ((line-laws text).unchanged true (ap (is_wanted true) e)).0
-widens text (WideEvent source pool) e w = absurd (true≢false (sym w))
-widens text Invalid e w = absurd (true≢false (sym w))
+widens text (Some (Event source pool)) e w = ((line-laws text).wider source pool e).0
+widens text (Some (Request clock n)) e w = ((line-laws text).unchanged true (ap (is_wanted true) e)).0
+widens text (Some (Update clock)) e w = ((line-laws text).unchanged true (ap (is_wanted true) e)).0
+widens text (Some (Write clock)) e w = ((line-laws text).unchanged true (ap (is_wanted true) e)).0
+widens text (Some (WideEvent source pool)) e w = absurd (true≢false (sym w))
+widens text None e w = absurd (true≢false (sym w))
 
 all-widen : (ls : List Line) → Each (Wanted false) ls → Each (Passes true) ls
 all-widen [] h = tt

@@ -3,11 +3,12 @@
 use mathlib.Core.Path.{◌≡◌, refl, sym, ap, ap₂, subst, subst₂, ◌∙◌}
 use mathlib.Core.Bool.{Bool, true, false, cond}
 use mathlib.Core.List.{List, [], ◌++◌}
-use Prim.Native.Nat.{ℕ, suc, ◌+◌, ◌≤◌}
+use Prim.Native.Nat.{ℕ, suc, ◌+◌, ◌-◌, ◌≤◌}
 use native.Mathlib.Omega.{arith}
 use lib.Dec.{eqb, ltb}
 use lib.ListN.{length, take}
 use borrow.Author.Tests.{ne_eqb}
+use Rattle.std.specs.Prelude.{Result, Err}
 use Rattle.laws.specs.Refusals.{refuse}
 use Rattle.laws.proofs.Cases.{by-test}
 use Rattle.bench.specs.Frames.{frame_of_text}
@@ -16,14 +17,14 @@ use Rattle.bench.proofs.Buffers.{overwrite-nothing}
 use Rattle.bench.proofs.Lines.{first-front, first_fits, first-all, feed-test, used_all, used-ended}
 use Rattle.convert.specs.Texts.{action_of, carried_out, action_number, text_number, converted}
 use Rattle.convert.specs.Logs.{Line, line_with, end_of, whole_line, converted_line, written_of, refusal_of}
-use Rattle.convert.specs.Promises.{number, line_writes, GivesLine, ConvertsLine, first_of, ConvertsFirst, StoresText}
+use Rattle.convert.specs.Promises.{code, code-above-0, line_writes, GivesLine, ConvertsLine, first_of, ConvertsFirst, StoresText}
 use Rattle.convert.specs.declared.action.Action.{Action}
-use Rattle.convert.specs.declared.line.LineAnswer.{LineAnswer}
-use Rattle.convert.specs.declared.answer.Answer.{Answer}
+use Rattle.convert.specs.declared.refusal.Refusal.{Refusal}
+use Rattle.convert.specs.declared.refusal.Refusal.TheVariants.{NoFrame, LargeSource, NoRoom}
 use Rattle.convert.proofs.Conversions.{refusal-room, refusal-text}
 use Rattle.convert.proofs.Stores.{end-one, end_none}
 
-module _ (wide : Bool) (room : ℕ) (text : List ℕ) (ended : Bool) (action : Action) (is : action_of wide (frame_of_text text) ≡ action) where
+module _ (wide : Bool) (room : ℕ) (text : List ℕ) (ended : Bool) (action : Result Action Refusal) (is : action_of wide (frame_of_text text) ≡ action) where
   abbrev here : Line
   here = line_with text ended
 
@@ -37,7 +38,7 @@ module _ (wide : Bool) (room : ℕ) (text : List ℕ) (ended : Bool) (action : A
 
   written_is : written_of wide here ≡ new-text
   unfolding written_of whole_line converted_line converted
-  written_is = ap (λ (a : Action). carried_out a text ++ end_of ended) is
+  written_is = ap (λ (a : Result Action Refusal). carried_out a text ++ end_of ended) is
 
   taken-number : action_number action ≡ 0 → refusal_of wide room here ≡ refuse (ltb room (length new-text)) 46 0
   taken-number n = refusal-room wide room here (number_is ∙ n) ∙ ap (λ (x : List ℕ). refuse (ltb room (length x)) 46 0) written_is
@@ -58,7 +59,8 @@ module _ (wide : Bool) (room : ℕ) (text : List ℕ) (ended : Bool) (action : A
   left-bytes n e = rw (left-number n e, ne_eqb (suc n) 0 (λ q. omega arith))
 
 -- a line that is taken, by the text that was stored
-pub line_taken : (wide ended : Bool) (text new out out' : List ℕ) (r : LineAnswer) (action : Action) → action_of wide (frame_of_text text) ≡ action
+pub line_taken : (wide ended : Bool) (text new out out' : List ℕ) (r : Result ℕ Refusal) (action : Result Action Refusal)
+    → action_of wide (frame_of_text text) ≡ action
     → action_number action ≡ 0 → new ≡ carried_out action text → StoresText (new ++ end_of ended) r out out'
     → ConvertsLine wide (line_with text ended) r out out'
 line_taken wide ended text new out out' r action is n e g =
@@ -68,12 +70,22 @@ line_taken wide ended text new out out' r action is n e g =
     (ap (λ (x : List ℕ). cond (ltb (length out) (length x)) [] x) whole ∙ sym (taken-bytes wide (length out) text ended action is n))
     g
 
+-- a refusal of a text has the text's number, which is above 0
+text-code : (refusal : Refusal) → action_number (Err refusal) ≡ code refusal
+unfolding action_number
+text-code NoFrame = refl
+text-code LargeSource = refl
+text-code NoRoom = refl
+
 -- and one that is refused
-pub line-left : (wide ended : Bool) (text out : List ℕ) (answer : Answer) (action : Action) (n : ℕ) → action_of wide (frame_of_text text) ≡ action
-    → action_number action ≡ suc n → number answer ≡ suc n → ConvertsLine wide (line_with text ended) (record { answer = answer; written = 0 }) out out
-line-left wide ended text out answer action n is e a =
-    rw (left-number wide (length out) text ended action is n e, left-bytes wide (length out) text ended action is n e)
-    (record { number_is = a; written_is = refl; buffer-is = sym (overwrite-nothing out) })
+pub line-left : (wide ended : Bool) (text out : List ℕ) (refusal : Refusal) → action_of wide (frame_of_text text) ≡ Err refusal
+    → ConvertsLine wide (line_with text ended) (Err refusal) out out
+line-left wide ended text out refusal is =
+    let n : ℕ = code refusal - 1 in
+    let e : code refusal ≡ suc n = omega (arith, code-above-0 refusal) in
+    let k = text-code refusal ∙ e in
+    rw (left-number wide (length out) text ended (Err refusal) is n k, left-bytes wide (length out) text ended (Err refusal) is n k)
+    (record { number_is = e; written_is = refl; buffer-is = sym (overwrite-nothing out) })
 
 -- ---- the line at the front of what is left
 
@@ -94,9 +106,9 @@ module _ (rest : List ℕ) (n : ℕ) (n-is : n ≡ length (first_line rest)) whe
         (λ t. omega (arith, n-is, size_is, end-one _ (ended_is ∙ t), used-ended rest t))
         (λ t. omega (arith, n-is, size_is, end_none _ (ended_is ∙ t), used_all rest t, ap length (first-all rest t)))
 
-    pub first-converted : (wide : Bool) (out out' : List ℕ) (o : LineAnswer)
+    pub first-converted : (wide : Bool) (out out' : List ℕ) (o : Result ℕ Refusal)
         → ConvertsLine wide (line_with (take n rest) (ltb n (length rest))) o out out'
-        → ConvertsFirst wide rest (record { answer = o.answer; used = n + size; written = o.written }) out out'
+        → ConvertsFirst wide rest (record { used = n + size; written = o }) out out'
     first-converted wide out out' o g = record {
       used-is = first-used;
       converts = subst (λ (l : Line). ConvertsLine wide l o out out') line-is g;

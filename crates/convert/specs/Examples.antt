@@ -1,15 +1,18 @@
 -- Rows worked out by the definitions: each frame both ways, the bounds of 16, 43 and 46, the edges of a log, and pieces.
 -- Assumes nothing.
-use Rattle.std.specs.Prelude.{◌≡◌, true, false, List, [], ◌∷◌, ◌++◌, map, ℕ, replicate}
+use Rattle.std.specs.Prelude.{◌≡◌, true, false, List, [], ◌∷◌, ◌++◌, map, ℕ, replicate, Option, Some, None, Result, Ok, Err}
+use Rattle.laws.specs.Refusals.{number_of}
 use Rattle.bench.specs.Examples.{ascii}
 use Rattle.bench.specs.declared.frame.Frame.{Frame}
-use Rattle.bench.specs.declared.frame.Frame.TheVariants.{Event, Request, Update, Write, WideEvent, Invalid}
+use Rattle.bench.specs.declared.frame.Frame.TheVariants.{Event, Request, Update, Write, WideEvent}
 use Rattle.convert.specs.Texts.{is_wanted, text_number, converted}
 use Rattle.convert.specs.Logs.{Conversion, all_written, conversion}
 use Rattle.convert.specs.Pieces.{with_lines, in_pieces}
-use Rattle.convert.specs.Promises.{number}
+use Rattle.convert.specs.Promises.{number, refused_code, refused_line}
+use Rattle.convert.specs.declared.outcome.Refused.{Refused}
 use Rattle.convert.specs.Statements.{CutAfterLines}
-use Rattle.convert.specs.declared.answer.Answer.TheVariants.{Converted, NoFrame, LargeSource, NoRoom}
+use Rattle.convert.specs.declared.refusal.Refusal.{Refusal}
+use Rattle.convert.specs.declared.refusal.Refusal.TheVariants.{NoFrame, LargeSource, NoRoom}
 
 -- ---- lines
 
@@ -59,7 +62,7 @@ LongRow =
 -- which frames are of the wanted kind
 abbrev pub WantedRow : Type 0
 WantedRow =
-    let frames : List Frame = Event 7 3 ∷ Request 5 16 ∷ Update 5 ∷ Write 5 ∷ WideEvent 7 3 ∷ Invalid ∷ [] in
+    let frames : List (Option Frame) = Some (Event 7 3) ∷ Some (Request 5 16) ∷ Some (Update 5) ∷ Some (Write 5) ∷ Some (WideEvent 7 3) ∷ None ∷ [] in
     (map (is_wanted true) frames ≡ false ∷ true ∷ true ∷ true ∷ true ∷ false ∷ [])
     × (map (is_wanted false) frames ≡ true ∷ true ∷ true ∷ true ∷ false ∷ false ∷ [])
 
@@ -71,7 +74,16 @@ RefusedTextRow =
 
 -- the numbers of the answers
 abbrev pub NumbersRow : Type 0
-NumbersRow = map number (Converted ∷ NoFrame ∷ LargeSource ∷ NoRoom ∷ []) ≡ 0 ∷ 16 ∷ 43 ∷ 46 ∷ []
+NumbersRow =
+    let answers : List (Result Unit Refusal) = Ok tt ∷ Err NoFrame ∷ Err LargeSource ∷ Err NoRoom ∷ [] in
+    map number answers ≡ 0 ∷ 16 ∷ 43 ∷ 46 ∷ []
+
+-- the numbers of a conversion's answers, and the lines
+abbrev pub AnswersRow : Type 0
+AnswersRow =
+    let refused : ℕ → Refusal → Result Unit Refused = λ line refusal. Err (record { line = line; refusal = refusal }) in
+    let answers : List (Result Unit Refused) = Ok tt ∷ refused 3 NoFrame ∷ refused 1 LargeSource ∷ refused 2 NoRoom ∷ [] in
+    (map (number_of refused_code) answers ≡ 0 ∷ 16 ∷ 43 ∷ 46 ∷ []) × (map refused_line answers ≡ 0 ∷ 3 ∷ 1 ∷ 2 ∷ [])
 
 -- ---- logs
 
@@ -167,6 +179,7 @@ pub record Examples : Type 0 where
   pub wanted_frames : WantedRow
   pub refused_texts : RefusedTextRow
   pub numbers : NumbersRow
+  pub answers : AnswersRow
   pub edges : EdgesRow
   pub first_refused : FirstRefusedRow
   pub room : RoomRow

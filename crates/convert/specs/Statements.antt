@@ -1,33 +1,39 @@
 -- What is proved of conversions, beside the code.
 -- Assumes nothing.
-use Rattle.std.specs.Prelude.{◌≡◌, Bool, true, false, List, [], ◌∷◌, ◌++◌, map, ◌↔◌, ◌⊎◌, ℕ, ◌+◌, ◌-◌, ◌*◌, ◌≤◌, ◌<◌, length, take, get_or}
+use Rattle.std.specs.Prelude.{◌≡◌, Bool, true, false, List, [], ◌∷◌, ◌++◌, map, ◌↔◌, ◌⊎◌, ℕ, ◌+◌, ◌-◌, ◌*◌, ◌≤◌, ◌<◌, length, take, get_or, Option, Some, None, Result}
 use Rattle.laws.specs.Lists.{joined}
+use Rattle.laws.specs.Refusals.{number_of}
 use Rattle.bench.specs.Frames.{max_wide_line, frame_of_text}
 use Rattle.bench.specs.Lines.{line_feed, line_call}
 use Rattle.bench.specs.Input.{lines, has_line_feed, transcript}
 use Rattle.bench.specs.declared.frame.Frame.{Frame}
-use Rattle.bench.specs.declared.frame.Frame.TheVariants.{Event, WideEvent, Invalid}
+use Rattle.bench.specs.declared.frame.Frame.TheVariants.{Event, WideEvent}
 use Rattle.convert.specs.Texts.{max_narrow_source, is_wanted, text_number, converted}
 use Rattle.convert.specs.Logs.{Line, line_with, end_of, whole_line, log_lines, converted_line, written_of, refusal_of, all_written, conversion}
 use Rattle.convert.specs.Pieces.{in_pieces}
-use Rattle.convert.specs.Promises.{number}
-use Rattle.convert.specs.declared.answer.Answer.{Answer}
+use Rattle.convert.specs.Promises.{number, refused_code, refused_line}
+use Rattle.convert.specs.declared.outcome.Refused.{Refused}
+use Rattle.convert.specs.declared.refusal.Refusal.{Refusal}
 
 -- an answer's number tells the answer
 abbrev pub NumberInjective : Type 0
-NumberInjective = (a b : Answer) → number a ≡ number b → a ≡ b
+NumberInjective = (a b : Result Unit Refusal) → number a ≡ number b → a ≡ b
+
+-- and a conversion's number and line tell its answer
+abbrev pub AnswerTold : Type 0
+AnswerTold = (a b : Result Unit Refused) → number_of refused_code a ≡ number_of refused_code b → refused_line a ≡ refused_line b → a ≡ b
 
 -- ---- a line
 
 pub record LineLaw (text : List ℕ) : Type 0 where
   -- frame 01 becomes 05 of the same source and pool
   pub wider :
-      (source pool : ℕ) → frame_of_text text ≡ Event source pool →
-      (text_number true text ≡ 0) × (frame_of_text (converted true text) ≡ WideEvent source pool)
+      (source pool : ℕ) → frame_of_text text ≡ Some (Event source pool) →
+      (text_number true text ≡ 0) × (frame_of_text (converted true text) ≡ Some (WideEvent source pool))
   -- frame 05 becomes 01 of the same source and pool, if its source is at most 255
   pub narrower :
-      (source pool : ℕ) → frame_of_text text ≡ WideEvent source pool → source ≤ max_narrow_source →
-      (text_number false text ≡ 0) × (frame_of_text (converted false text) ≡ Event source pool)
+      (source pool : ℕ) → frame_of_text text ≡ Some (WideEvent source pool) → source ≤ max_narrow_source →
+      (text_number false text ≡ 0) × (frame_of_text (converted false text) ≡ Some (Event source pool))
   -- a frame of the wanted kind stays as it is
   pub unchanged :
       (wide : Bool) → is_wanted wide (frame_of_text text) ≡ true → (text_number wide text ≡ 0) × (converted wide text ≡ text)
@@ -36,22 +42,22 @@ pub record LineLaw (text : List ℕ) : Type 0 where
   pub same_call : (wide : Bool) → text_number wide text ≡ 0 → line_call (converted wide text) ≡ line_call text
   -- an 01 to 05 to 01 trip restores the line, and so does one from 05 to 01 to 05, if its source is at most 255
   pub trip :
-      (source pool : ℕ) → frame_of_text text ≡ Event source pool →
+      (source pool : ℕ) → frame_of_text text ≡ Some (Event source pool) →
       (text_number false (converted true text) ≡ 0) × (converted false (converted true text) ≡ text)
   pub trip_back :
-      (source pool : ℕ) → frame_of_text text ≡ WideEvent source pool → source ≤ max_narrow_source →
+      (source pool : ℕ) → frame_of_text text ≡ Some (WideEvent source pool) → source ≤ max_narrow_source →
       (text_number true (converted false text) ≡ 0) × (converted true (converted false text) ≡ text)
 
 abbrev pub LineLaws : Type 0
 LineLaws = (text : List ℕ) → LineLaw text
 
 -- an event whose source frame 01 can't carry, where 01 is wanted
-abbrev pub TooLarge : Bool → Frame → Type 0
-TooLarge wide f = (wide ≡ false) × (source : ℕ) × (pool : ℕ) × (f ≡ WideEvent source pool) × (max_narrow_source < source)
+abbrev pub TooLarge : Bool → Option Frame → Type 0
+TooLarge wide f = (wide ≡ false) × (source : ℕ) × (pool : ℕ) × (f ≡ Some (WideEvent source pool)) × (max_narrow_source < source)
 
 -- 16 before 43 before 46: which line is refused by which number, into so much room
 pub record OrderLaw (wide : Bool) (room : ℕ) (l : Line) : Type 0 where
-  pub stray : (refusal_of wide room l ≡ 16) ↔ (frame_of_text l.text ≡ Invalid)
+  pub stray : (refusal_of wide room l ≡ 16) ↔ (frame_of_text l.text ≡ None)
   pub large_source : (refusal_of wide room l ≡ 43) ↔ TooLarge wide (frame_of_text l.text)
   pub no_room :
       (refusal_of wide room l ≡ 46)

@@ -2,48 +2,42 @@
 #![tactic(auto)]
 
 mod action;
-mod answer;
 mod line;
+mod outcome;
+mod refusal;
 
 ghost use Rattle.std.specs.Prelude.{length};
 ghost use Rattle.convert.specs.Logs.{conversion};
 ghost use Rattle.convert.specs.Promises.{Gives};
 
-pub use answer::Answer;
 use line::convert_first;
-
-// The number of the refused line, from 1, or 0 where none was refused; and how many bytes were written.
-#[derive(Clone, Copy)]
-pub struct Outcome {
-    pub answer: Answer,
-    pub line: usize,
-    pub written: usize,
-}
+pub use outcome::{Outcome, Refused};
+pub use refusal::Refusal;
 
 // A whole log, at the front of out: 05 for every event where `wide`, else 01. A refused line ends the work; those before it are written.
 pub fn convert(log: &[u8], wide: bool, out: &mut [u8]) -> Outcome
     ensures { Gives (conversion wide (length out.old) log.now) result out.old out.new }
 {
-    let mut at: usize = 0;
-    let mut line: usize = 1;
-    let mut written: usize = 0;
+    // Kept: (d) a turn goes on by the length of the line that it read, told by `convert_first` alone: no `for` has that step, and counts `line` with it.
+    let mut at = 0;
+    let mut line = 1;
+    let mut written = 0;
     while at < log.len() {
-        let o = convert_first(&log[at..], wide, &mut out[written..]);
-        let answer = o.answer;
-        if !answer.is_converted() {
-            return Outcome {
-                answer,
-                line,
-                written,
-            };
+        let first = convert_first(&log[at..], wide, &mut out[written..]);
+        match first.written {
+            Ok(n) => written += n,
+            Err(refusal) => {
+                return Outcome {
+                    answer: Err(Refused { line, refusal }),
+                    written,
+                };
+            }
         }
-        written += o.written;
-        at += o.used;
+        at += first.used;
         line += 1;
     }
     Outcome {
-        answer: Answer::Converted,
-        line: 0,
+        answer: Ok(()),
         written,
     }
 }

@@ -4,44 +4,31 @@ ghost use Rattle.convert.specs.Logs.{end_of, line_with};
 ghost use Rattle.convert.specs.Promises.{ConvertsLine, ConvertsFirst, StoresText, PartsStored, EndStored};
 
 use crate::action::{Action, action_of};
-use crate::answer::Answer;
+use crate::refusal::Refusal;
 use bench::input::line_length;
 use bench::line::frame_of_text;
 use laws::overwrite;
 
-// How many bytes were written.
+// How many bytes of the log the first line and its end take; and how many were written for them, or why the line is refused.
 #[derive(Clone, Copy)]
-pub struct LineAnswer {
-    pub answer: Answer,
-    pub written: usize,
-}
-
-// The same, and how many of the log's bytes the line and its end are.
-#[derive(Clone, Copy)]
-pub struct FirstAnswer {
-    pub answer: Answer,
+pub struct FirstLine {
     pub used: usize,
-    pub written: usize,
+    pub written: Result<usize, Refusal>,
 }
 
 // The text from a place on; nothing past its end, so that no caller has to show how long a frame is.
 fn rest_of(text: &[u8], n: usize) -> &[u8]
     ensures { result.now ≡ drop n text.now }
 {
-    if text.len() < n {
-        return &text[..0];
-    }
-    &text[n..]
+    &text[n.min(text.len())..]
 }
 
 // How many characters end a line.
+#[tactic(auto, unfolding(crate::specs::Logs::end_of))]
 fn end_size(ended: bool) -> usize
     ensures { result ≡ length (end_of ended) }
 {
-    if ended {
-        return 1;
-    }
-    0
+    usize::from(ended)
 }
 
 // A line feed at a place, where one ends the line.
@@ -50,7 +37,7 @@ fn store_end(ended: bool, at: usize, out: &mut [u8])
     ensures { EndStored ended at out.old out.new }
 {
     if ended {
-        out[at] = 10;
+        out[at] = b'\n';
     }
 }
 
@@ -60,65 +47,44 @@ fn store_parts(front: &[u8], rest: &[u8], out: &mut [u8])
     ensures { PartsStored front.now rest.now out.old out.new }
 {
     overwrite(out, front);
-    let a = front.len();
-    overwrite(&mut out[a..], rest);
+    overwrite(&mut out[front.len()..], rest);
 }
 
-// A text in two parts and its end, if there is room for all of it. The first is short, so that no sum of lengths overflows.
-fn put(front: &[u8], rest: &[u8], ended: bool, out: &mut [u8]) -> LineAnswer
+// A text in two parts and its end, if there is room for all of it: how many bytes that is. The first part is short, so that no sum of
+// lengths overflows.
+fn put(front: &[u8], rest: &[u8], ended: bool, out: &mut [u8]) -> Result<usize, Refusal>
     requires { length front.now ≤ 4 }
     ensures { StoresText ((front.now ++ rest.now) ++ end_of ended) result out.old out.new }
 {
     let size = front.len() + rest.len();
     let total = size + end_size(ended);
     if out.len() < total {
-        return LineAnswer {
-            answer: Answer::NoRoom,
-            written: 0,
-        };
+        return Err(Refusal::NoRoom);
     }
     store_parts(front, rest, out);
     store_end(ended, size, out);
-    LineAnswer {
-        answer: Answer::Converted,
-        written: total,
-    }
+    Ok(total)
 }
 
-// A line's text and end.
-fn convert_line(text: &[u8], ended: bool, wide: bool, out: &mut [u8]) -> LineAnswer
+// A line's text and end: how many bytes were written.
+fn convert_line(text: &[u8], ended: bool, wide: bool, out: &mut [u8]) -> Result<usize, Refusal>
     ensures { ConvertsLine wide (line_with text.now ended) result out.old out.new }
 {
-    let wide_front = [48u8, 53, 48, 48];
-    let narrow_front = [48u8, 49];
-    let action = action_of(frame_of_text(text), wide);
-    match action {
-        Action::Keep => put(&text[..0], text, ended, out),
-        Action::Widen => put(&wide_front, rest_of(text, 2), ended, out),
-        Action::Narrow => put(&narrow_front, rest_of(text, 4), ended, out),
-        Action::Stray => LineAnswer {
-            answer: Answer::NoFrame,
-            written: 0,
-        },
-        Action::Large => LineAnswer {
-            answer: Answer::LargeSource,
-            written: 0,
-        },
+    match action_of(frame_of_text(text), wide)? {
+        Action::Keep => put(b"", text, ended, out),
+        Action::Widen => put(b"0500", rest_of(text, 2), ended, out),
+        Action::Narrow => put(b"01", rest_of(text, 4), ended, out),
     }
 }
 
 // The first line of what is left of a log.
-pub fn convert_first(rest: &[u8], wide: bool, out: &mut [u8]) -> FirstAnswer
+pub fn convert_first(rest: &[u8], wide: bool, out: &mut [u8]) -> FirstLine
     ensures { ConvertsFirst wide rest.now result out.old out.new }
 {
     let n = line_length(rest);
     let ended = n < rest.len();
-    let o = convert_line(&rest[..n], ended, wide, out);
-    let answer = o.answer;
-    let used = n + end_size(ended);
-    FirstAnswer {
-        answer,
-        used,
-        written: o.written,
+    FirstLine {
+        used: n + end_size(ended),
+        written: convert_line(&rest[..n], ended, wide, out),
     }
 }

@@ -6,13 +6,13 @@ use Rattle.laws.specs.Blocks.{block_count}
 use Rattle.ctr_drbg.specs.Counter.{octets_to_integer, integer_to_octets, increment}
 use Rattle.ctr_drbg.specs.Algorithms.{seed_length, xored, padded, working, state_of, generate_blocks, divided, zero_working, instantiate, reseed, prepared_by, generate}
 use Rattle.ctr_drbg.specs.Refusals.{max_request, reseed_interval, never_seeded, reseed_required, instantiate_number, reseed_number, generate_number}
-use Rattle.ctr_drbg.specs.Operations.{number, fresh, instantiate_answer, instantiated, reseed_answer, reseeded, generate_answer, generated, generate_buffer}
+use Rattle.ctr_drbg.specs.Operations.{code, fresh, instantiate_answer, instantiated, reseed_answer, reseeded, generate_answer, generated, generate_buffer}
 use Rattle.ctr_drbg.specs.Runs.{call_number, call_next, numbers_from, served_before}
 use Rattle.ctr_drbg.specs.Boundaries.{Boundaries}
 
 pub boundaries : Boundaries
 unfolding tabulate octets_to_integer integer_to_octets increment seed_length xored padded divided max_request reseed_interval never_seeded reseed_required
-    instantiate_number reseed_number generate_number number state_of zero_working fresh block_count working instantiate reseed prepared_by generate_blocks generate
+    instantiate_number reseed_number generate_number code state_of zero_working fresh block_count working instantiate reseed prepared_by generate_blocks generate
     instantiate_answer instantiated reseed_answer reseeded generate_answer generated generate_buffer call_number call_next numbers_from served_before
 boundaries =
     record {

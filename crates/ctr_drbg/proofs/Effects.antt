@@ -17,7 +17,7 @@ use Rattle.word_cipher.specs.Words.{packed}
 use Rattle.word_cipher.specs.Tables.{tables}
 use Rattle.word_cipher.specs.Cipher.{word_cipher}
 use Rattle.word_cipher.proofs.Laws.{ciphers-agree}
-use Rattle.ctr_drbg.specs.Algorithms.{seed_length, padded, xored, divided, generate_blocks, working, working_of, state_of, update, prepared, prepared_by, generate}
+use Rattle.ctr_drbg.specs.Algorithms.{seed_length, padded, xored, divided, generate_blocks, working, working_of, state_of, update, prepared_by, generate}
 use Rattle.ctr_drbg.specs.Closed.{after, enciphered, closed_blocks, closed_update}
 use Rattle.ctr_drbg.specs.declared.CtrDrbg.{CtrDrbg}
 use Rattle.ctr_drbg.specs.declared.update.Working.{Working}
@@ -73,32 +73,18 @@ module _ (key t w : List ℕ) (tabled : t ≡ tables) (keyed : w ≡ packed 60 (
         output ∙ rw (under-key v k, blocks-closed k (working_of key v)),
       )
 
--- an update behind no bytes is one alone
-pub update-alone : (provided : List ℕ) (w r : Working) → r ≡ update provided (generate_blocks w (block_count 0)).next → r ≡ update provided w
-unfolding generate_blocks block_count
-update-alone provided w r e = e
-
--- ---- the operations
-
--- a seeding, as the code makes it
-pub seeded-is : (key v entropy other first second material : List ℕ) (next : Working) (s : CtrDrbg) → length entropy ≡ seed_length
+-- a seeding, as the code makes it: no block is made before its update
+pub seeded-is : (w next : Working) (entropy other first second material : List ℕ) (s : CtrDrbg) → length entropy ≡ seed_length
     → first ≡ padded entropy → second ≡ padded other → material ≡ xored first second
-    → next ≡ update material (generate_blocks (prepared_by 0 material (working_of key v)) (block_count 0)).next
-    → s ≡ state_of next 1 → s ≡ state_of (update (xored entropy (padded other)) (working_of key v)) 1
-unfolding prepared_by
-seeded-is key v entropy other first second material next s full p q mix n e =
-    e ∙ rw (update-alone material (working_of key v) next n, mix, p, q, padded-full entropy full)
-
--- from Key and V as the first update left them
-pub advanced-is : (n : ℕ) (provided ys : List ℕ) (first prepared next : Working) → first ≡ prepared
-    → next ≡ update provided (generate_blocks first (block_count n)).next → ys ≡ take n (generate_blocks first (block_count n)).bytes
-    → (next ≡ update provided (generate_blocks prepared (block_count n)).next) × (ys ≡ take n (generate_blocks prepared (block_count n)).bytes)
-advanced-is n provided ys first prepared next f u o = (u ∙ rw f, o ∙ rw f)
+    → next ≡ update material (generate_blocks (prepared_by 0 material w) (block_count 0)).next
+    → s ≡ state_of next 1 → s ≡ state_of (update (xored entropy (padded other)) w) 1
+unfolding prepared_by generate_blocks block_count
+seeded-is w next entropy other first second material s full p q mix n e = e ∙ rw (n, mix, p, q, padded-full entropy full)
 
 -- a request of n bytes, as the code makes it
-pub served-is : (s r : CtrDrbg) (n : ℕ) (additional provided ys : List ℕ) (next : Working) → provided ≡ padded additional
-    → next ≡ update provided (generate_blocks (prepared_by (length additional) provided (working s)) (block_count n)).next
-    → ys ≡ take n (generate_blocks (prepared_by (length additional) provided (working s)) (block_count n)).bytes
+pub served-is : (s r : CtrDrbg) (w next : Working) (n : ℕ) (additional provided ys : List ℕ) → w ≡ working s → provided ≡ padded additional
+    → next ≡ update provided (generate_blocks (prepared_by (length additional) provided w) (block_count n)).next
+    → ys ≡ take n (generate_blocks (prepared_by (length additional) provided w) (block_count n)).bytes
     → r ≡ state_of next (s.reseed_counter + 1) → (r ≡ (generate s n additional).next) × (ys ≡ (generate s n additional).bytes)
 unfolding generate
-served-is s r n additional provided ys next p u o e = (e ∙ rw (u, p), o ∙ rw p)
+served-is s r w next n additional provided ys held p u o e = (e ∙ rw (u, p, held), o ∙ rw (p, held))

@@ -13,17 +13,18 @@ use lib.ListN.{length, get_or}
 use borrow.Author.Tests.{ne_eqb}
 use Rattle.laws.specs.Blocks.{block_count}
 use Rattle.laws.proofs.Tabulate.{length-tabulate, get_d_tabulate}
+use Rattle.std.specs.Prelude.{Result, Ok, Err}
 use Rattle.cipher.specs.Aes.{Bytes}
 use Rattle.ctr_drbg.specs.Counter.{octets_to_integer, integer_to_octets, increment}
 use Rattle.ctr_drbg.specs.Algorithms.{seed_length, padded, generate_blocks, update, working, prepared_by, prepared, generate}
 use Rattle.ctr_drbg.specs.Closed.{after, values_of_v, closed_blocks, closed_update, closed_from, closed_generate}
 use Rattle.ctr_drbg.specs.Refusals.{max_request}
-use Rattle.ctr_drbg.specs.Operations.{number}
+use Rattle.ctr_drbg.specs.Operations.{code, number}
 use Rattle.ctr_drbg.specs.Statements.{CounterEncoding, ClosedForm, Different, NoBlockTwice, EmptyInput, NothingAsked, NumberInjective}
 use Rattle.ctr_drbg.specs.declared.CtrDrbg.{CtrDrbg}
 use Rattle.ctr_drbg.specs.declared.update.Working.{Working}
-use Rattle.ctr_drbg.specs.declared.answer.Answer.{Answer}
-use Rattle.ctr_drbg.specs.declared.answer.Answer.TheVariants.{Done, RequestTooLong, EntropyLength, InputTooLong, SeedingNeeded}
+use Rattle.ctr_drbg.specs.declared.refusal.Refusal.{Refusal}
+use Rattle.ctr_drbg.specs.declared.refusal.Refusal.TheVariants.{RequestTooLong, EntropyLength, InputTooLong, SeedingNeeded}
 use Rattle.ctr_drbg.proofs.Digits.{integer-octets, octets-integer}
 use Rattle.ctr_drbg.proofs.Steps.{blocks-closed, update-closed, instantiate-closed, reseed-closed, generate-closed}
 
@@ -122,16 +123,16 @@ nothing-asked s additional = record { bytes = refl; next = refl }
 -- ---- numbers
 
 -- the answer that a number belongs to
-answer_of : ℕ → Answer
-answer_of n = cond (eqb n 0) Done (cond (eqb n 14) RequestTooLong (cond (eqb n 40) EntropyLength (cond (eqb n 41) InputTooLong SeedingNeeded)))
+answer_of : ℕ → Result Unit Refusal
+answer_of n = cond (eqb n 0) (Ok tt) (Err (cond (eqb n 14) RequestTooLong (cond (eqb n 40) EntropyLength (cond (eqb n 41) InputTooLong SeedingNeeded))))
 
-read_back : (a : Answer) → answer_of (number a) ≡ a
-unfolding answer_of number
-read_back Done = refl
-read_back RequestTooLong = refl
-read_back EntropyLength = refl
-read_back InputTooLong = refl
-read_back SeedingNeeded = refl
+read_back : (a : Result Unit Refusal) → answer_of (number a) ≡ a
+unfolding answer_of code
+read_back (Ok tt) = refl
+read_back (Err RequestTooLong) = refl
+read_back (Err EntropyLength) = refl
+read_back (Err InputTooLong) = refl
+read_back (Err SeedingNeeded) = refl
 
 pub number-injective : NumberInjective
 number-injective a b e = sym (read_back a) ∙ ap answer_of e ∙ read_back b

@@ -1,7 +1,7 @@
 -- Boundary rows: the last accepted and the first refused value of each number, their order, the carries of V, the places of bytes, and
 -- what calls do, with the update and the cipher left as they are.
 -- Assumes nothing.
-use Rattle.std.specs.Prelude.{◌≡◌, List, [], ◌∷◌, ◌++◌, map, ℕ, ◌+◌, ◌-◌, ◌^◌, take, replicate}
+use Rattle.std.specs.Prelude.{◌≡◌, List, [], ◌∷◌, ◌++◌, map, ℕ, ◌+◌, ◌-◌, ◌^◌, take, replicate, Ok, Err}
 use Rattle.laws.specs.Lists.{tabulate}
 use Rattle.laws.specs.Blocks.{block_count}
 use Rattle.ctr_drbg.specs.Counter.{octets_to_integer, integer_to_octets, increment}
@@ -11,7 +11,7 @@ use Rattle.ctr_drbg.specs.Operations.{number, fresh, instantiated, reseeded, gen
 use Rattle.ctr_drbg.specs.Runs.{Call, instantiation, reseeding, request, numbers_from, served_before}
 use Rattle.ctr_drbg.specs.declared.CtrDrbg.{CtrDrbg}
 use Rattle.ctr_drbg.specs.declared.update.Working.{Working}
-use Rattle.ctr_drbg.specs.declared.answer.Answer.TheVariants.{Done, RequestTooLong, EntropyLength, InputTooLong, SeedingNeeded}
+use Rattle.ctr_drbg.specs.declared.refusal.Refusal.TheVariants.{RequestTooLong, EntropyLength, InputTooLong, SeedingNeeded}
 
 -- k bytes of FF behind a byte x and zeros, 16 in all
 abbrev pub before_carry : ℕ → ℕ → List ℕ
@@ -92,7 +92,7 @@ OrderRow =
 
 -- the numbers of the answers, each by its name
 abbrev pub AnswersRow : Type 0
-AnswersRow = map number (Done ∷ RequestTooLong ∷ EntropyLength ∷ InputTooLong ∷ SeedingNeeded ∷ []) ≡ 0 ∷ 14 ∷ 40 ∷ 41 ∷ 42 ∷ []
+AnswersRow = map number (Ok tt ∷ Err RequestTooLong ∷ Err EntropyLength ∷ Err InputTooLong ∷ Err SeedingNeeded ∷ []) ≡ 0 ∷ 14 ∷ 40 ∷ 41 ∷ 42 ∷ []
 
 -- before any seeding Key, V and the reseed counter are zero
 abbrev pub FreshRow : Type 0

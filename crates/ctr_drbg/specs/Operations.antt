@@ -1,20 +1,32 @@
 -- What the methods give: refused by a number, with state and buffer as before, or the algorithm's effect.
 -- Assumes nothing.
-use Rattle.std.specs.Prelude.{List, ℕ, length}
-use Rattle.laws.specs.Refusals.{guarded}
+use Rattle.std.specs.Prelude.{List, ℕ, ◌<◌, length, Result}
+use Rattle.std.proofs.Common.{lit<}
+use Rattle.laws.specs.Refusals.{guarded, number_of}
 use Rattle.ctr_drbg.specs.Algorithms.{state_of, zero_working, instantiate, reseed, generate}
 use Rattle.ctr_drbg.specs.Refusals.{instantiate_number, reseed_number, generate_number}
 use Rattle.ctr_drbg.specs.declared.CtrDrbg.{CtrDrbg}
-use Rattle.ctr_drbg.specs.declared.answer.Answer.{Answer}
-use Rattle.ctr_drbg.specs.declared.answer.Answer.TheVariants.{Done, RequestTooLong, EntropyLength, InputTooLong, SeedingNeeded}
+use Rattle.ctr_drbg.specs.declared.refusal.Refusal.{Refusal}
+use Rattle.ctr_drbg.specs.declared.refusal.Refusal.TheVariants.{RequestTooLong, EntropyLength, InputTooLong, SeedingNeeded}
+
+-- the number of a refusal
+unfoldable pub code : Refusal → ℕ
+code RequestTooLong = 14
+code EntropyLength = 40
+code InputTooLong = 41
+code SeedingNeeded = 42
+
+-- 0 is no refusal's
+pub code-above-0 : (refusal : Refusal) → 0 < code refusal
+unfolding code
+code-above-0 RequestTooLong = lit< tt
+code-above-0 EntropyLength = lit< tt
+code-above-0 InputTooLong = lit< tt
+code-above-0 SeedingNeeded = lit< tt
 
 -- the number of an answer, 0 where the operation was done
-unfoldable pub number : Answer → ℕ
-number Done = 0
-number RequestTooLong = 14
-number EntropyLength = 40
-number InputTooLong = 41
-number SeedingNeeded = 42
+abbrev pub number : Result Unit Refusal → ℕ
+number = number_of code
 
 -- the state before any seeding
 unfoldable pub fresh : CtrDrbg

@@ -1,6 +1,6 @@
 -- What is proved of the definitions beside the code. Runs.antt has what is proved of lists of calls.
 -- Assumes nothing.
-use Rattle.std.specs.Prelude.{◌≡◌, ◌≢◌, List, [], ◌∷◌, ℕ, ◌+◌, ◌%◌, ◌^◌, ◌≤◌, ◌<◌, length, get_or, replicate}
+use Rattle.std.specs.Prelude.{◌≡◌, ◌≢◌, List, [], ◌∷◌, ℕ, ◌+◌, ◌%◌, ◌^◌, ◌≤◌, ◌<◌, length, get_or, replicate, Result}
 use Rattle.cipher.specs.Aes.{Bytes}
 use Rattle.ctr_drbg.specs.Counter.{octets_to_integer, integer_to_octets, increment}
 use Rattle.ctr_drbg.specs.Algorithms.{padded, working, state_of, generate_blocks, update, instantiate, reseed, prepared, generate}
@@ -9,7 +9,7 @@ use Rattle.ctr_drbg.specs.Refusals.{max_request}
 use Rattle.ctr_drbg.specs.Operations.{number, fresh}
 use Rattle.ctr_drbg.specs.declared.CtrDrbg.{CtrDrbg}
 use Rattle.ctr_drbg.specs.declared.update.Working.{Working}
-use Rattle.ctr_drbg.specs.declared.answer.Answer.{Answer}
+use Rattle.ctr_drbg.specs.declared.refusal.Refusal.{Refusal}
 
 -- V as bytes and V as a number are the same thing, modulo 2^128
 pub record CounterEncoding : Type 0 where
@@ -53,4 +53,4 @@ pub record NothingAsked (s : CtrDrbg) (additional : List ℕ) : Type 0 where
 
 -- different answers have different numbers
 abbrev pub NumberInjective : Type 0
-NumberInjective = (a b : Answer) → number a ≡ number b → a ≡ b
+NumberInjective = (a b : Result Unit Refusal) → number a ≡ number b → a ≡ b

@@ -1,11 +1,11 @@
-// CTR_DRBG_Update, alone and behind output under the same Key.
-ghost use Rattle.std.specs.Prelude.{◌≡◌, length, take};
+// Key and V: CTR_DRBG_Update, alone and behind output under the same Key.
+ghost use Rattle.std.specs.Prelude.{◌≡◌, ◌≤◌, length, take};
 ghost use Rattle.laws.specs.Blocks.{block_count};
-ghost use Rattle.word_cipher.specs.Tables.{tables};
-ghost use Rattle.ctr_drbg.specs.Algorithms.{divided, generate_blocks, update, working_of};
+ghost use Rattle.ctr_drbg.specs.Algorithms.{seed_length, xored, padded, divided, generate_blocks, update, state_of, zero_working, prepared_by};
 
+use crate::CtrDrbg;
 use crate::output::fill;
-use crate::seed::xored;
+use crate::seed::{padded, xored};
 use laws::overwrite;
 
 // Key and V.
@@ -26,31 +26,73 @@ fn divided(temp: [u8; 48]) -> Working
     Working { key, v }
 }
 
-// Fills the buffer with the blocks that follow V, then gives Key and V updated with the provided data. The key is expanded once for
-// both.
-pub(crate) fn fill_and_update(
-    t: &[u32; 1024],
-    key: [u8; 32],
-    v: [u8; 16],
-    provided: [u8; 48],
-    out: &mut [u8],
-) -> Working
-    requires { t.now ≡ tables }
-    ensures { (result ≡ update provided (generate_blocks (working_of key v) (block_count (length out.old))).next)
-        × (out.new ≡ take (length out.old) (generate_blocks (working_of key v) (block_count (length out.old))).bytes) }
-{
-    let schedule = word_cipher::expand_key(key);
-    let last = fill(t, &schedule.words, v, out);
-    let mut temp = [0u8; 48];
-    fill(t, &schedule.words, last, &mut temp);
-    divided(xored(temp, provided))
-}
+impl Working {
+    // Key and V before the first seeding.
+    #[tactic(auto, unfolding(crate::specs::Algorithms::zero_working))]
+    pub(crate) fn zero() -> Working
+        ensures { result ≡ zero_working }
+    {
+        Working {
+            key: [0u8; 32],
+            v: [0u8; 16],
+        }
+    }
 
-// Key and V updated with the provided data.
-pub(crate) fn update(t: &[u32; 1024], key: [u8; 32], v: [u8; 16], provided: [u8; 48]) -> Working
-    requires { t.now ≡ tables }
-    ensures { result ≡ update provided (working_of key v) }
-{
-    let mut none = [0u8; 0];
-    fill_and_update(t, key, v, provided, &mut none)
+    // The state that holds Key and V.
+    #[tactic(auto, unfolding(crate::specs::Algorithms::state_of))]
+    pub(crate) fn counted(self, reseed_counter: u64) -> CtrDrbg
+        ensures { result ≡ state_of self reseed_counter }
+    {
+        // Kept: (c) an array field put straight into the literal of another struct is not proved.
+        let key = self.key;
+        let v = self.v;
+        CtrDrbg {
+            key,
+            v,
+            reseed_counter,
+        }
+    }
+
+    // Fills the buffer with the blocks that follow V, then gives Key and V updated with the provided data. The key is expanded once
+    // for both.
+    fn filled(self, provided: [u8; 48], out: &mut [u8]) -> Working
+        ensures { (result ≡ update provided (generate_blocks self (block_count (length out.old))).next)
+            × (out.new ≡ take (length out.old) (generate_blocks self (block_count (length out.old))).bytes) }
+    {
+        let schedule = word_cipher::expand_key(self.key);
+        let last = fill(&schedule.words, self.v, out);
+        let mut temp = [0u8; 48];
+        fill(&schedule.words, last, &mut temp);
+        divided(xored(temp, provided))
+    }
+
+    // Key and V before the output: updated where there is additional input, of which there are m bytes.
+    #[tactic(auto, unfolding(crate::specs::Algorithms::prepared_by, crate::specs::Algorithms::generate_blocks, laws::specs::Blocks::block_count))]
+    fn prepared(self, m: usize, provided: [u8; 48]) -> Working
+        ensures { result ≡ prepared_by m provided self }
+    {
+        if m == 0 {
+            return self;
+        }
+        self.filled(provided, &mut [])
+    }
+
+    // Steps 2 to 6 of a request, with m bytes of additional input: the buffer is filled, and Key and V are updated. A seeding is the
+    // same with none and an empty buffer.
+    pub(crate) fn advanced(self, m: usize, provided: [u8; 48], out: &mut [u8]) -> Working
+        ensures { (result ≡ update provided (generate_blocks (prepared_by m provided self) (block_count (length out.old))).next)
+            × (out.new ≡ take (length out.old) (generate_blocks (prepared_by m provided self) (block_count (length out.old))).bytes) }
+    {
+        let first = self.prepared(m, provided);
+        first.filled(provided, out)
+    }
+
+    // The state after a seeding from Key and V, where it is accepted.
+    pub(crate) fn seeded(self, entropy: &[u8], other: &[u8]) -> CtrDrbg
+        requires { (length entropy.now ≡ seed_length) × (length other.now ≤ seed_length) }
+        ensures { result ≡ state_of (update (xored entropy.now (padded other.now)) self) 1 }
+    {
+        let material = xored(padded(entropy), padded(other));
+        self.advanced(0, material, &mut []).counted(1)
+    }
 }

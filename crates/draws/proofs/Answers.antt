@@ -41,7 +41,7 @@ module _ (s : Fortuna) (call : Call) (k : ℕ) (d : Bool) (numbered : k ≡ call
 -- ---- a draw
 
 module _ (s : Fortuna) (clock n times k : ℕ) (d : Bool) (numbered : k ≡ call_number s (draw clock n times)) (tested : d ≡ eqb k 0) where
-  pub draw-done : (r : Draw) → d ≡ true → DrawsValue (tries (try_at clock) n times s) r → GivesValue (step s (draw clock n times)) r.answer r.emptied r.value r.next
+  pub draw-done : (r : Draw) → d ≡ true → DrawsValue (tries (try_at clock) n times s) r → GivesValue (step s (draw clock n times)) r.answer r.emptied r.next
   unfolding call_effect call_found call_value
   draw-done r t (answer, emptied, value, next) =
       let is = done s (draw clock n times) k d numbered tested t in (
@@ -64,7 +64,7 @@ module _ (s : Fortuna) (clock n times k : ℕ) (d : Bool) (numbered : k ≡ call
 -- ---- a shuffle
 
 module _ (s : Fortuna) (clock : ℕ) (list : List ℕ) (k : ℕ) (d : Bool) (numbered : k ≡ call_number s (shuffle clock list)) (tested : d ≡ eqb k 0) where
-  pub shuffle-done : (r : Outcome) (out : List ℕ) → d ≡ true → DrawsList (shuffled (try_at clock) list s) r out → GivesBytes (step s (shuffle clock list)) r out
+  pub shuffle-done : (r : Outcome Fortuna) (out : List ℕ) → d ≡ true → DrawsList (shuffled (try_at clock) list s) r out → GivesBytes (step s (shuffle clock list)) r out
   unfolding call_effect call_found
   shuffle-done r out t (answer, emptied, next, buffer) =
       let is = done s (shuffle clock list) k d numbered tested t in (

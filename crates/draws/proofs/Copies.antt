@@ -51,7 +51,7 @@ cut-front : (n : ℕ) (xs ys zs : List ℕ) → length xs ≡ n → zs ≡ xs ++
 cut-front n xs ys zs l e = rw (e, ← l) (take-append_seam xs ys)
 
 -- a list of at least one number, copied over the front of `blank` and shuffled there; r is what that came to
-module _ (clock : ℕ) (s : Fortuna) (list blank order left : List ℕ) (r : Outcome)
+module _ (clock : ℕ) (s : Fortuna) (list blank order left : List ℕ) (r : Outcome Fortuna)
     (some : 1 ≤ length list) (room : length list ≤ length blank) (copied : order ≡ overwrite blank list)
     (drawn : DrawsList (shuffle_from (try_at clock) (length list - 1) order s) r left) where
   rest : List ℕ

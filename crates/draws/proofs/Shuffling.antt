@@ -2,19 +2,22 @@
 -- Assumes nothing.
 use mathlib.Core.Path.{◌≡◌, refl, sym, ap, ◌∙◌, subst}
 use mathlib.Core.Bool.{Bool, true, false, cond}
-use mathlib.Core.List.{List}
+use mathlib.Core.List.{List, [], ◌∷◌}
 use Prim.Native.Nat.{ℕ, zero, suc, ◌+◌, ◌-◌, ◌*◌, ◌≤◌, ◌<◌}
 use native.Mathlib.Nat.{zero-add, not-suc-le-zero}
 use native.Mathlib.Omega.{arith}
 use lib.Dec.{eqb, ltb}
+use lib.ListN.{length}
+use Rattle.std.proofs.lemmas.List.{get_or_default}
 use borrow.Author.Tests.{ltb-true}
+use Rattle.std.specs.List.{swap}
 use Rattle.laws.proofs.Cases.{split}
 use Rattle.slots.specs.Fair.{try_value}
 use Rattle.slots.specs.Shuffle.{exchange}
 use Rattle.pools.specs.Refusals.{max_tries}
 use Rattle.pools.specs.Effects.{Effect, unchanged}
 use Rattle.pools.specs.Draws.{Drawn, after, leaving, tries, shuffle_from, try_at}
-use Rattle.pools.specs.Promises.{number}
+use Rattle.pools.specs.Promises.{number, value_of}
 use Rattle.pools.specs.Tries.{Passing}
 use Rattle.pools.specs.declared.Fortuna.{Fortuna}
 use Rattle.pools.proofs.Tries.{tries-pools, tries-passing}
@@ -37,6 +40,12 @@ tries-below {S} serve n (suc d) s f =
     split (λ (o : Drawn S). o.found ≡ true → o.value < n) (ltb (try_value n (serve s).buffer) n)
     (λ t g. ltb-true (try_value n (serve s).buffer) n t)
     (λ t g. tries-below serve n d (serve s).next g) f
+
+-- the library's exchange of two entries
+pub swap-is : (xs : List ℕ) (i j : ℕ) → i < length xs → j < length xs → swap xs i j ≡ exchange i j xs
+unfolding exchange
+swap-is [] i j h k = absurd (not-suc-le-zero h)
+swap-is (x ∷ xs) i j h k = rw (get_or_default (x ∷ xs) i x 0 h, get_or_default (x ∷ xs) j x 0 k)
 
 -- ---- e pools were emptied before what is left of a shuffle
 
@@ -78,10 +87,10 @@ module _ (clock p e : ℕ) (whole : Drawn Fortuna) (xs : List ℕ) (s : Fortuna)
         let (found, emptied, next, buffer) = subst (LeftList whole e) is left in
         (rw found (drawn.0 ∙ rw f), rw drawn.1 (sym emptied), drawn.3 ∙ sym next, sym buffer)
 
-    pub place-drawn : done ≡ true → r.value < p + 1
+    pub place-drawn : done ≡ true → value_of r.answer < p + 1
     place-drawn t = rw drawn.2 (tries-below (try_at clock) (p + 1) 64 s (is_found ∙ t))
 
-    pub place-next : (ys : List ℕ) → done ≡ true → ys ≡ exchange p r.value xs → LeftList whole (e + r.emptied) (shuffle_from (try_at clock) (p - 1) ys r.next)
+    pub place-next : (ys : List ℕ) → done ≡ true → ys ≡ exchange p (value_of r.answer) xs → LeftList whole (e + r.emptied) (shuffle_from (try_at clock) (p - 1) ys r.next)
     unfolding after
     place-next ys t changed =
         let f = is_found ∙ t in

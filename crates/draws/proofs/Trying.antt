@@ -31,13 +31,13 @@ unfolding call_effect try_at
 request-effect s clock buffer h k = sym (done s (request clock buffer) _ true refl (rw k) refl) ∙ rw h
 
 -- what a request gave is what the try gives, and it empties at most 32 pools
-pub record Served (s : Fortuna) (clock : ℕ) (q : Outcome) (out : List ℕ) : Type 0 where
+pub record Served (s : Fortuna) (clock : ℕ) (q : Outcome Fortuna) (out : List ℕ) : Type 0 where
   pub few : q.emptied ≤ 32
   pub emptied : q.emptied ≡ (try_at clock s).emptied
   pub next : q.next ≡ (try_at clock s).next
   pub bytes : out ≡ (try_at clock s).buffer
 
-pub served : (s : Fortuna) (clock k : ℕ) (buffer bytes : List ℕ) (q : Outcome) → length buffer ≡ 4 → 0 < k → Passing s clock k
+pub served : (s : Fortuna) (clock k : ℕ) (buffer bytes : List ℕ) (q : Outcome Fortuna) → length buffer ≡ 4 → 0 < k → Passing s clock k
     → GivesBytes (step s (request clock buffer)) q bytes → Served s clock q bytes
 unfolding try_size pool_count
 served s clock k buffer bytes q h l pass ((number, emptied, next), out) =
@@ -64,7 +64,7 @@ left-all o = (refl, refl, sym (zero-add o.effect.emptied), refl)
 
 -- t tries of d were made, and the state is now s
 module _ (clock n d t e : ℕ) (whole : Drawn Fortuna) (s : Fortuna) (left : Left whole e (tries (try_at clock) n (d - t) s)) where
-  module _ (q : Outcome) (k v : ℕ) (bytes : List ℕ) (turn : t < d) (try : Served s clock q bytes) (bits : k ≡ bits_for n) (drawn : v ≡ value bytes % 2 ^ k) where
+  module _ (q : Outcome Fortuna) (k v : ℕ) (bytes : List ℕ) (turn : t < d) (try : Served s clock q bytes) (bits : k ≡ bits_for n) (drawn : v ≡ value bytes % 2 ^ k) where
     is-value : v ≡ try_value n (try_at clock s).buffer
     unfolding try_value
     is-value = rw (← bits, ← try.bytes) drawn
@@ -102,7 +102,7 @@ module _ (clock n d t e : ℕ) (whole : Drawn Fortuna) (s : Fortuna) (left : Lef
 abbrev pub Ready : Fortuna → ℕ → ℕ → Type 0
 Ready s clock k = (length s.pools ≡ pool_count) × Passing s clock k
 
-pub ready-next : (s : Fortuna) (clock d t : ℕ) (q : Outcome) (bytes : List ℕ) → t < d → Served s clock q bytes → Ready s clock (d - t) → Ready q.next clock (d - (t + 1))
+pub ready-next : (s : Fortuna) (clock d t : ℕ) (q : Outcome Fortuna) (bytes : List ℕ) → t < d → Served s clock q bytes → Ready s clock (d - t) → Ready q.next clock (d - (t + 1))
 ready-next s clock d t q bytes h try (all, pass) =
     let m : d - t ≡ suc (d - (t + 1)) = omega arith in
     rw try.next (pools-next s clock all, passing-next s clock (d - (t + 1)) all (subst (Passing s clock) m pass))

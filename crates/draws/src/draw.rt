@@ -6,15 +6,14 @@ ghost use Rattle.pools.specs.Promises.{GivesValue};
 ghost use Rattle.pools.specs.Tries.{Passing};
 ghost use Rattle.draws.specs.Drawing.{DrawsValue};
 
-use pools::{Answer, Fortuna};
+use pools::{Fortuna, Refusal};
 use slots::{bits_for, low_bits};
 
-// The answer, the pools emptied, the value drawn, and the state that follows.
+// The answer, with the value drawn, the pools emptied, and the state that follows.
 #[derive(Clone, Copy)]
 pub struct Draw {
-    pub answer: Answer,
+    pub answer: Result<u64, Refusal>,
     pub emptied: u32,
-    pub value: u64,
     pub next: Fortuna,
 }
 
@@ -24,45 +23,38 @@ pub(crate) fn make_tries(mut state: Fortuna, clock: u32, n: u64, d: u32) -> Draw
     ensures { DrawsValue (tries (try_at clock) n d state) result × (result.emptied ≤ 32 * d) }
 {
     let k = bits_for(n);
-    let mut emptied = 0u32;
-    let mut t = 0u32;
-    while t < d {
+    let mut emptied = 0;
+    for _t in 0..d {
         let mut bytes = [0u8; 4];
         let served = state.random_data(clock, &mut bytes);
-        emptied = emptied + served.emptied;
-        let next = served.next;
-        state = next;
+        emptied += served.emptied;
+        state = served.next;
         let value = low_bits(bytes, k);
         if value < n {
             return Draw {
-                answer: Answer::Done,
-                emptied: emptied,
-                value: value,
+                answer: Ok(value),
+                emptied,
                 next: state,
             };
         }
-        t = t + 1;
     }
     Draw {
-        answer: Answer::NoneDrawn,
-        emptied: emptied,
-        value: 0,
+        answer: Err(Refusal::NoneDrawn),
+        emptied,
         next: state,
     }
 }
 
 // A value below n, with up to d tries at a reading of the clock.
 pub fn random_below(state: Fortuna, clock: u32, n: u64, d: u32) -> Draw
-    ensures { GivesValue (step state (draw clock n d)) result.answer result.emptied result.value result.next }
+    ensures { GivesValue (step state (draw clock n d)) result.answer result.emptied result.next }
 {
-    let answer = state.draw_answer(clock, n, d);
-    if answer.is_done() {
-        return make_tries(state, clock, n, d);
-    }
-    Draw {
-        answer: answer,
-        emptied: 0,
-        value: 0,
-        next: state,
+    match state.draw_answer(clock, n, d) {
+        Ok(()) => make_tries(state, clock, n, d),
+        Err(refusal) => Draw {
+            answer: Err(refusal),
+            emptied: 0,
+            next: state,
+        },
     }
 }

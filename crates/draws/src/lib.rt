@@ -2,7 +2,6 @@
 #![tactic(auto)]
 
 mod draw;
-mod lists;
 mod shuffles;
 
 pub use draw::{Draw, random_below};

@@ -1,9 +1,8 @@
 -- The row, by computation.
 -- Assumes nothing.
 use mathlib.Core.Path.{refl}
-use Rattle.history.specs.Reader.{number}
 use Rattle.fortuna_c.specs.PoolStrings.{entry_of, EntriesRow}
 
 pub entries : EntriesRow
-unfolding entry_of number
+unfolding entry_of
 entries = refl

@@ -1,32 +1,27 @@
 -- What a call of the health tests leaves with C.
 -- Assumes nothing.
-use Rattle.std.specs.Prelude.{◌≡◌, Bool, false, ℕ}
-use Rattle.health.specs.Calls.{number}
+use Rattle.std.specs.Prelude.{◌≡◌, Bool, false, ℕ, Some, None, Ok, Err}
+use Rattle.health.specs.Calls.{Answer, number}
 use Rattle.health.specs.declared.HealthState.{HealthState}
 use Rattle.health.specs.declared.Outcome.{Outcome}
-use Rattle.health.specs.declared.Answer.{Answer}
-use Rattle.health.specs.declared.Answer.TheVariants.{Passed, Failed, CutoffRange, Malformed}
 use Rattle.fortuna_c.specs.declared.health_tests.FortunaHealthAnswer.{FortunaHealthAnswer}
 
 -- the place of the sample that failed, 0 where none did
 unfoldable pub place_of : Answer → ℕ
-place_of Passed = 0
-place_of (Failed place by_repetition by_proportion) = place
-place_of CutoffRange = 0
-place_of Malformed = 0
+place_of (Ok None) = 0
+place_of (Ok (Some failure)) = failure.place
+place_of (Err refusal) = 0
 
 -- whether it failed the repetition count test, and the adaptive proportion test
 unfoldable pub repetition_of : Answer → Bool
-repetition_of Passed = false
-repetition_of (Failed place by_repetition by_proportion) = by_repetition
-repetition_of CutoffRange = false
-repetition_of Malformed = false
+repetition_of (Ok None) = false
+repetition_of (Ok (Some failure)) = failure.repetition
+repetition_of (Err refusal) = false
 
 unfoldable pub proportion_of : Answer → Bool
-proportion_of Passed = false
-proportion_of (Failed place by_repetition by_proportion) = by_proportion
-proportion_of CutoffRange = false
-proportion_of Malformed = false
+proportion_of (Ok None) = false
+proportion_of (Ok (Some failure)) = failure.proportion
+proportion_of (Err refusal) = false
 
 -- the four fields of an answer
 abbrev pub Tells : Answer → FortunaHealthAnswer → Type 0

@@ -16,6 +16,5 @@ pub extern "C" fn fortuna_aes256_expand(key: &[u8; 32]) -> Schedule
 pub extern "C" fn fortuna_aes256_block(key: Schedule, block: &mut [u8; 16])
     ensures { block.new ≡ cipher_with (unpacked 240 key.words) block.old }
 {
-    let enciphered = word_cipher::encrypt_with(key, *block);
-    *block = enciphered;
+    *block = word_cipher::encrypt_with(key, *block);
 }

@@ -15,6 +15,5 @@ pub extern "C" fn fortuna_aes256_bytewise_expand(key: &[u8; 32]) -> Schedule
 pub extern "C" fn fortuna_aes256_bytewise_block(key: Schedule, block: &mut [u8; 16])
     ensures { block.new ≡ cipher_with key.words block.old }
 {
-    let enciphered = cipher::encrypt_with(key, *block);
-    *block = enciphered;
+    *block = cipher::encrypt_with(key, *block);
 }

@@ -4,6 +4,7 @@ ghost use Rattle.convert.specs.Logs.{conversion};
 ghost use Rattle.fortuna_c.specs.Conversions.{LeavesConverted};
 
 use convert::convert;
+use laws::number_of;
 
 // 0 or the number that refused a line; that line's number, from 1, or 0; and how many bytes were written.
 #[repr(C)]
@@ -19,10 +20,9 @@ pub extern "C" fn fortuna_convert(log: &[u8], wide: bool, out: &mut [u8]) -> For
     ensures { LeavesConverted (conversion wide (length out.old) log.now) result out.old out.new }
 {
     let o = convert(log, wide, out);
-    let answer = o.answer;
     FortunaConversion {
-        number: answer.number(),
-        line: o.line,
+        number: number_of(o.answer),
+        line: o.line(),
         written: o.written,
     }
 }

@@ -1,17 +1,10 @@
 // CTR_DRBG of NIST SP 800-90A, on a state that the caller lends.
 ghost use Rattle.std.specs.Prelude.{◌≡◌};
-ghost use Rattle.ctr_drbg.specs.Operations.{number, fresh};
+ghost use Rattle.ctr_drbg.specs.Operations.{fresh};
 ghost use Rattle.fortuna_c.specs.CtrDrbgAnswers.{LeavesInstantiated, LeavesReseeded, LeavesGenerated};
 
-use ctr_drbg::{CtrDrbg, Outcome};
-
-// Not private, since the walks of the three calls cite it from outside this module (proofs/DrbgStates.antt).
-pub(crate) fn number_of(o: Outcome) -> u32
-    ensures { result ≡ number o.answer }
-{
-    let answer = o.answer;
-    answer.number()
-}
+use ctr_drbg::CtrDrbg;
+use laws::number_of;
 
 #[unsafe(no_mangle)]
 pub extern "C" fn fortuna_ctr_drbg_new() -> CtrDrbg
@@ -28,10 +21,9 @@ pub extern "C" fn fortuna_ctr_drbg_instantiate(
 ) -> u32
     ensures { LeavesInstantiated state.old entropy.now personalization.now result state.new }
 {
-    let s = *state;
-    let o = s.instantiate(entropy, personalization);
-    *state = o.next;
-    number_of(o)
+    let seeded = state.instantiate(entropy, personalization);
+    *state = seeded.next;
+    number_of(seeded.answer)
 }
 
 #[unsafe(no_mangle)]
@@ -42,10 +34,9 @@ pub extern "C" fn fortuna_ctr_drbg_reseed(
 ) -> u32
     ensures { LeavesReseeded state.old entropy.now additional.now result state.new }
 {
-    let s = *state;
-    let o = s.reseed(entropy, additional);
-    *state = o.next;
-    number_of(o)
+    let reseeded = state.reseed(entropy, additional);
+    *state = reseeded.next;
+    number_of(reseeded.answer)
 }
 
 #[unsafe(no_mangle)]
@@ -56,8 +47,7 @@ pub extern "C" fn fortuna_ctr_drbg_generate(
 ) -> u32
     ensures { LeavesGenerated state.old out.old additional.now result state.new out.new }
 {
-    let s = *state;
-    let o = s.generate(out, additional);
-    *state = o.next;
-    number_of(o)
+    let filled = state.generate(out, additional);
+    *state = filled.next;
+    number_of(filled.answer)
 }

@@ -3,6 +3,7 @@ ghost use Rattle.std.specs.Prelude.{◌≡◌};
 ghost use Rattle.generator.specs.Operations.{number, fresh, reseed_answer, reseeded, blocks_answer, blocks_made, blocks_buffer, request_answer, requested, request_buffer};
 
 use generator::{Generator, Outcome};
+use laws::number_of;
 
 #[repr(C)]
 #[derive(Clone, Copy)]
@@ -14,11 +15,9 @@ pub struct FortunaGeneratorOutcome {
 fn exported(o: Outcome) -> FortunaGeneratorOutcome
     ensures { (result.number ≡ number o.answer) × (result.next ≡ o.next) }
 {
-    let answer = o.answer;
-    let next = o.next;
     FortunaGeneratorOutcome {
-        number: answer.number(),
-        next: next,
+        number: number_of(o.answer),
+        next: o.next,
     }
 }
 

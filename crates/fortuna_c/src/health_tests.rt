@@ -1,9 +1,10 @@
 // The health tests of a noise source, on a test state that the caller lends.
-ghost use Rattle.std.specs.Prelude.{◌≡◌, false};
+ghost use Rattle.std.specs.Prelude.{◌≡◌};
 ghost use Rattle.health.specs.Calls.{fresh, tested};
 ghost use Rattle.fortuna_c.specs.HealthAnswers.{Tells, LeavesTested};
 
-use health::{Answer, HealthState, Outcome};
+use health::{Failure, HealthState, Refusal};
+use laws::number_of;
 
 // The refusal's number, or 0; whether the sample at the place fails each test. Place 0 and neither test where no sample failed.
 #[repr(C)]
@@ -15,37 +16,24 @@ pub struct FortunaHealthAnswer {
     pub place: usize,
 }
 
-// The answer of a call in which no sample failed.
-fn none_failed(number: u32) -> FortunaHealthAnswer
-    ensures { (result.number ≡ number) × (result.repetition ≡ false) × (result.proportion ≡ false) × (result.place ≡ 0) }
+#[tactic(auto, unfolding(crate::specs::HealthAnswers::place_of, crate::specs::HealthAnswers::repetition_of, crate::specs::HealthAnswers::proportion_of))]
+fn answer_of(answer: Result<Option<Failure>, Refusal>) -> FortunaHealthAnswer
+    ensures { Tells answer result }
 {
-    FortunaHealthAnswer {
-        number,
-        repetition: false,
-        proportion: false,
-        place: 0,
-    }
-}
-
-fn answer_of(o: Outcome) -> FortunaHealthAnswer
-    ensures { Tells o.answer result }
-{
-    let answer = o.answer;
-    let number = answer.number();
+    let number = number_of(answer);
     match answer {
-        Answer::Failed {
-            place,
-            repetition,
-            proportion,
-        } => FortunaHealthAnswer {
+        Ok(Some(failure)) => FortunaHealthAnswer {
             number,
-            repetition,
-            proportion,
-            place,
+            repetition: failure.repetition,
+            proportion: failure.proportion,
+            place: failure.place,
         },
-        Answer::Passed => none_failed(number),
-        Answer::CutoffRange => none_failed(number),
-        Answer::Malformed => none_failed(number),
+        Ok(None) | Err(_) => FortunaHealthAnswer {
+            number,
+            repetition: false,
+            proportion: false,
+            place: 0,
+        },
     }
 }
 
@@ -65,8 +53,7 @@ pub extern "C" fn fortuna_health_test(
 ) -> FortunaHealthAnswer
     ensures { LeavesTested (tested repetition proportion state.old samples.now) result state.new }
 {
-    let s = *state;
-    let o = s.test(samples, repetition, proportion);
+    let o = state.test(samples, repetition, proportion);
     *state = o.next;
-    answer_of(o)
+    answer_of(o.answer)
 }

@@ -1,24 +1,12 @@
 // The calls of the keyed scheduler, on a state that the caller lends.
 ghost use Rattle.std.specs.Prelude.{◌≡◌};
-ghost use Rattle.pools.specs.Promises.{number};
 ghost use Rattle.keyed.specs.State.{fresh};
 ghost use Rattle.keyed.specs.Scheduler.{input_pool, emptied_at};
 ghost use Rattle.keyed.specs.Calls.{event, request, update, write, step};
 ghost use Rattle.fortuna_c.specs.KeyedOutcomes.{KeyedLeaves, KeyedLeavesBytes};
 
-use crate::station::FortunaAnswer;
-use keyed::{Keyed, Outcome};
-
-// Not private, since the walks of the calls cite it from outside this module (proofs/KeyedBuffered.antt).
-pub(crate) fn keyed_answer_of(o: Outcome) -> FortunaAnswer
-    ensures { (result.number ≡ number o.answer) × (result.emptied ≡ o.emptied) }
-{
-    let answer = o.answer;
-    FortunaAnswer {
-        number: answer.number(),
-        emptied: o.emptied,
-    }
-}
+use crate::station::{FortunaAnswer, answer_of};
+use keyed::Keyed;
 
 #[unsafe(no_mangle)]
 pub extern "C" fn fortuna_keyed_new(scheduler_key: &[u8; 32]) -> Keyed
@@ -31,40 +19,36 @@ pub extern "C" fn fortuna_keyed_new(scheduler_key: &[u8; 32]) -> Keyed
 pub extern "C" fn fortuna_keyed_event(state: &mut Keyed, source: u32, data: &[u8]) -> FortunaAnswer
     ensures { KeyedLeaves (step state.old (event source «data».now)) result state.new }
 {
-    let s = *state;
-    let o = s.add_event(source, data);
+    let o = state.add_event(source, data);
     *state = o.next;
-    keyed_answer_of(o)
+    answer_of(&o)
 }
 
 #[unsafe(no_mangle)]
 pub extern "C" fn fortuna_keyed_request(state: &mut Keyed, out: &mut [u8]) -> FortunaAnswer
     ensures { KeyedLeavesBytes (step state.old (request out.old)) result state.new out.new }
 {
-    let s = *state;
-    let o = s.random_data(out);
+    let o = state.random_data(out);
     *state = o.next;
-    keyed_answer_of(o)
+    answer_of(&o)
 }
 
 #[unsafe(no_mangle)]
 pub extern "C" fn fortuna_keyed_update(state: &mut Keyed, seed: &mut [u8]) -> FortunaAnswer
     ensures { KeyedLeavesBytes (step state.old (update seed.old)) result state.new seed.new }
 {
-    let s = *state;
-    let o = s.update_seed(seed);
+    let o = state.update_seed(seed);
     *state = o.next;
-    keyed_answer_of(o)
+    answer_of(&o)
 }
 
 #[unsafe(no_mangle)]
 pub extern "C" fn fortuna_keyed_write(state: &mut Keyed, seed: &mut [u8]) -> FortunaAnswer
     ensures { KeyedLeavesBytes (step state.old (write seed.old)) result state.new seed.new }
 {
-    let s = *state;
-    let o = s.write_seed(seed);
+    let o = state.write_seed(seed);
     *state = o.next;
-    keyed_answer_of(o)
+    answer_of(&o)
 }
 
 // The pool that the event at a step goes to.

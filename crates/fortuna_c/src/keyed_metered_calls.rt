@@ -3,8 +3,7 @@
 ghost use Rattle.keyed.specs.Calls.{event, request, update, write};
 ghost use Rattle.fortuna_c.specs.KeyedOutcomes.{KeyedMeteredLeaves, KeyedMeteredLeavesBytes};
 
-use crate::keyed_calls::keyed_answer_of;
-use crate::station::FortunaAnswer;
+use crate::station::{FortunaAnswer, answer_of};
 use keyed::Keyed;
 use quotas::Quota;
 
@@ -18,10 +17,9 @@ pub extern "C" fn fortuna_keyed_metered_event(
     ensures { KeyedMeteredLeaves state.old list.old (event source «data».now) result
         state.new list.new }
 {
-    let s = *state;
-    let o = metered::keyed_add_event(s, list, source, data);
+    let o = metered::keyed_add_event(*state, list, source, data);
     *state = o.next;
-    keyed_answer_of(o)
+    answer_of(&o)
 }
 
 #[unsafe(no_mangle)]
@@ -33,10 +31,9 @@ pub extern "C" fn fortuna_keyed_metered_request(
     ensures { KeyedMeteredLeavesBytes state.old list.now (request out.old) result
         state.new out.new }
 {
-    let s = *state;
-    let o = metered::keyed_random_data(s, list, out);
+    let o = metered::keyed_random_data(*state, list, out);
     *state = o.next;
-    keyed_answer_of(o)
+    answer_of(&o)
 }
 
 #[unsafe(no_mangle)]
@@ -48,10 +45,9 @@ pub extern "C" fn fortuna_keyed_metered_update(
     ensures { KeyedMeteredLeavesBytes state.old list.now (update seed.old) result
         state.new seed.new }
 {
-    let s = *state;
-    let o = metered::keyed_update_seed(s, list, seed);
+    let o = metered::keyed_update_seed(*state, list, seed);
     *state = o.next;
-    keyed_answer_of(o)
+    answer_of(&o)
 }
 
 #[unsafe(no_mangle)]
@@ -63,8 +59,7 @@ pub extern "C" fn fortuna_keyed_metered_write(
     ensures { KeyedMeteredLeavesBytes state.old list.now (write seed.old) result
         state.new seed.new }
 {
-    let s = *state;
-    let o = metered::keyed_write_seed(s, list, seed);
+    let o = metered::keyed_write_seed(*state, list, seed);
     *state = o.next;
-    keyed_answer_of(o)
+    answer_of(&o)
 }

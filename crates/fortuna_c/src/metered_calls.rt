@@ -3,7 +3,8 @@ ghost use Rattle.pools.specs.Calls.{event, request, update, write, draw, shuffle
 ghost use Rattle.fortuna_c.specs.Outcomes.{MeteredLeaves, MeteredLeavesBytes, MeteredLeavesValue};
 
 use crate::slot_draws::{FortunaDraw, draw_of};
-use crate::station::{FortunaAnswer, answer_of, number_of, put_pool};
+use crate::station::{FortunaAnswer, answer_of, put_pool};
+use laws::number_of;
 use pools::Fortuna;
 use quotas::Quota;
 
@@ -18,10 +19,9 @@ pub extern "C" fn fortuna_metered_event(
     ensures { MeteredLeaves state.old list.old (event source pool «data».now) result
         state.new list.new }
 {
-    let s = *state;
-    let gain = metered::gain_of(s, list, source, pool, data);
+    let gain = metered::gain_of(*state, list, source, pool, data);
     put_pool(state, gain.place, gain.pool);
-    number_of(gain)
+    number_of(gain.answer)
 }
 
 #[unsafe(no_mangle)]
@@ -34,10 +34,9 @@ pub extern "C" fn fortuna_metered_request(
     ensures { MeteredLeavesBytes state.old list.old (request clock out.old) result
         state.new list.new out.new }
 {
-    let s = *state;
-    let o = metered::random_data(s, list, clock, out);
+    let o = metered::random_data(*state, list, clock, out);
     *state = o.next;
-    answer_of(o)
+    answer_of(&o)
 }
 
 #[unsafe(no_mangle)]
@@ -50,10 +49,9 @@ pub extern "C" fn fortuna_metered_update(
     ensures { MeteredLeavesBytes state.old list.old (update clock seed.old) result
         state.new list.new seed.new }
 {
-    let s = *state;
-    let o = metered::update_seed(s, list, clock, seed);
+    let o = metered::update_seed(*state, list, clock, seed);
     *state = o.next;
-    answer_of(o)
+    answer_of(&o)
 }
 
 #[unsafe(no_mangle)]
@@ -66,10 +64,9 @@ pub extern "C" fn fortuna_metered_write(
     ensures { MeteredLeavesBytes state.old list.old (write clock seed.old) result
         state.new list.new seed.new }
 {
-    let s = *state;
-    let o = metered::write_seed(s, list, clock, seed);
+    let o = metered::write_seed(*state, list, clock, seed);
     *state = o.next;
-    answer_of(o)
+    answer_of(&o)
 }
 
 #[unsafe(no_mangle)]
@@ -82,8 +79,7 @@ pub extern "C" fn fortuna_metered_random_below(
 ) -> FortunaDraw
     ensures { MeteredLeavesValue state.old list.old (draw clock n tries) result state.new list.new }
 {
-    let s = *state;
-    let d = metered::random_below(s, list, clock, n, tries);
+    let d = metered::random_below(*state, list, clock, n, tries);
     *state = d.next;
     draw_of(d)
 }
@@ -98,8 +94,7 @@ pub extern "C" fn fortuna_metered_shuffle(
     ensures { MeteredLeavesBytes state.old list.old (shuffle clock numbers.old) result
         state.new list.new numbers.new }
 {
-    let s = *state;
-    let o = metered::shuffle(s, list, clock, numbers);
+    let o = metered::shuffle(*state, list, clock, numbers);
     *state = o.next;
-    answer_of(o)
+    answer_of(&o)
 }

@@ -3,7 +3,8 @@ ghost use Rattle.std.specs.Prelude.{◌≡◌};
 ghost use Rattle.history.specs.Reader.{entry_at};
 ghost use Rattle.fortuna_c.specs.PoolStrings.{entry_of};
 
-use history::{Answer, entry_at};
+use history::{Entry, NoEvent, entry_at};
+use laws::number_of;
 
 // 0 or 44; the event's source; whether an event was found; the place that was asked for; where the event's data start, and the next place.
 // Where no event was found the source is 0, and `from` and `next` are the place asked for.
@@ -19,12 +20,13 @@ pub struct FortunaEntry {
 }
 
 // An answer as C takes it.
-fn entry_of(answer: Answer, place: usize) -> FortunaEntry
+#[tactic(auto, unfolding(crate::specs::PoolStrings::entry_of))]
+fn entry_of(answer: Result<Option<Entry>, NoEvent>, place: usize) -> FortunaEntry
     ensures { result ≡ entry_of place answer }
 {
-    let number = answer.number();
+    let number = number_of(answer);
     match answer {
-        Answer::Found { source, from, next } => FortunaEntry {
+        Ok(Some(Entry { source, from, next })) => FortunaEntry {
             number,
             source,
             found: true,
@@ -32,7 +34,7 @@ fn entry_of(answer: Answer, place: usize) -> FortunaEntry
             from,
             next,
         },
-        Answer::End => FortunaEntry {
+        Ok(None) => FortunaEntry {
             number,
             source: 0,
             found: false,
@@ -40,7 +42,7 @@ fn entry_of(answer: Answer, place: usize) -> FortunaEntry
             from: place,
             next: place,
         },
-        Answer::NoEvent { place: at } => FortunaEntry {
+        Err(NoEvent { place: at }) => FortunaEntry {
             number,
             source: 0,
             found: false,

@@ -1,23 +1,21 @@
 // SHA-256 and D of a caller's bytes, into a caller's buffer.
-ghost use Rattle.std.specs.Prelude.{◌≡◌, cond, eqb, length};
+ghost use Rattle.std.specs.Prelude.{◌≡◌, length, MatchResult};
 ghost use Rattle.hash.specs.Sha256.{sha256};
 ghost use Rattle.hash.specs.ShaD.{max_message, max_d_message, D};
 ghost use Rattle.hash.specs.Answers.{number, length_number};
 ghost use Rattle.fortuna_c.specs.Buffers.{digest_buffer};
 
-use hash::Hashed;
+use hash::TooLong;
+use laws::number_of;
 
 // The answer's number; the digest goes into the buffer unless it was refused.
-fn handed_out(h: Hashed, digest: &mut [u8; 32]) -> u32
-    ensures { (result ≡ number h.answer) × (digest.new ≡ cond (eqb (number h.answer) 0) h.digest digest.old) }
+fn handed_out(hashed: Result<[u8; 32], TooLong>, digest: &mut [u8; 32]) -> u32
+    ensures { (result ≡ number hashed) × MatchResult hashed (λ d. digest.new ≡ d) (λ _. digest.new ≡ digest.old) }
 {
-    let answer = h.answer;
-    let number = answer.number();
-    if number == 0 {
-        let d = h.digest;
+    if let Ok(d) = hashed {
         *digest = d;
     }
-    number
+    number_of(hashed)
 }
 
 #[unsafe(no_mangle)]

@@ -1,11 +1,12 @@
 // Draws below n and shuffles of a list, on a state that the caller lends.
 ghost use Rattle.std.specs.Prelude.{◌≡◌};
-ghost use Rattle.pools.specs.Promises.{number};
+ghost use Rattle.pools.specs.Promises.{number, value_of};
 ghost use Rattle.pools.specs.Calls.{draw, shuffle, step};
 ghost use Rattle.fortuna_c.specs.Outcomes.{LeavesBytes, LeavesValue};
 
 use crate::station::{FortunaAnswer, answer_of};
 use draws::Draw;
+use laws::number_of;
 use pools::Fortuna;
 
 // The refusal's number, or 0, how many pools were emptied, and the value, 0 where there is none.
@@ -18,13 +19,12 @@ pub struct FortunaDraw {
 }
 
 pub(crate) fn draw_of(d: Draw) -> FortunaDraw
-    ensures { (result.number ≡ number d.answer) × (result.emptied ≡ d.emptied) × (result.value ≡ d.value) }
+    ensures { (result.number ≡ number d.answer) × (result.emptied ≡ d.emptied) × (result.value ≡ value_of d.answer) }
 {
-    let answer = d.answer;
     FortunaDraw {
-        number: answer.number(),
+        number: number_of(d.answer),
         emptied: d.emptied,
-        value: d.value,
+        value: d.answer.unwrap_or(0),
     }
 }
 
@@ -37,8 +37,7 @@ pub extern "C" fn fortuna_random_below(
 ) -> FortunaDraw
     ensures { LeavesValue (step state.old (draw clock n tries)) result state.new }
 {
-    let s = *state;
-    let d = draws::random_below(s, clock, n, tries);
+    let d = draws::random_below(*state, clock, n, tries);
     *state = d.next;
     draw_of(d)
 }
@@ -51,8 +50,7 @@ pub extern "C" fn fortuna_shuffle(
 ) -> FortunaAnswer
     ensures { LeavesBytes (step state.old (shuffle clock list.old)) result state.new list.new }
 {
-    let s = *state;
-    let o = draws::shuffle(s, clock, list);
+    let o = draws::shuffle(*state, clock, list);
     *state = o.next;
-    answer_of(o)
+    answer_of(&o)
 }

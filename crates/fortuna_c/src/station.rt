@@ -7,7 +7,8 @@ ghost use Rattle.pools.specs.Calls.{event, request, update, write, step};
 ghost use Rattle.fortuna_c.specs.Outcomes.{Leaves, LeavesBytes};
 
 use hash::Hasher;
-use pools::{Fortuna, Gain, Outcome};
+use laws::number_of;
+use pools::{Fortuna, Outcome};
 
 // The refusal's number, or 0, and how many pools were emptied.
 #[repr(C)]
@@ -17,13 +18,6 @@ pub struct FortunaAnswer {
     pub emptied: u32,
 }
 
-pub(crate) fn number_of(gain: Gain) -> u32
-    ensures { result ≡ number gain.answer }
-{
-    let answer = gain.answer;
-    answer.number()
-}
-
 pub(crate) fn put_pool(state: &mut Fortuna, place: usize, pool: Hasher)
     requires { place < 32 }
     ensures { state.new ≡ with_pool state.old place pool }
@@ -31,12 +25,12 @@ pub(crate) fn put_pool(state: &mut Fortuna, place: usize, pool: Hasher)
     state.pools[place] = pool;
 }
 
-pub(crate) fn answer_of(o: Outcome) -> FortunaAnswer
-    ensures { (result.number ≡ number o.answer) × (result.emptied ≡ o.emptied) }
+// What C is told of a call, on a state of either scheduler.
+pub(crate) fn answer_of<S>(o: &Outcome<S>) -> FortunaAnswer
+    ensures { (result.number ≡ number o.now.answer) × (result.emptied ≡ o.now.emptied) }
 {
-    let answer = o.answer;
     FortunaAnswer {
-        number: answer.number(),
+        number: number_of(o.answer),
         emptied: o.emptied,
     }
 }
@@ -52,38 +46,34 @@ pub extern "C" fn fortuna_new() -> Fortuna
 pub extern "C" fn fortuna_event(state: &mut Fortuna, source: u32, pool: u32, data: &[u8]) -> u32
     ensures { Leaves (step state.old (event source pool «data».now)) result state.new }
 {
-    let s = *state;
-    let gain = s.gain_of(source, pool, data);
+    let gain = state.gain_of(source, pool, data);
     put_pool(state, gain.place, gain.pool);
-    number_of(gain)
+    number_of(gain.answer)
 }
 
 #[unsafe(no_mangle)]
 pub extern "C" fn fortuna_request(state: &mut Fortuna, clock: u32, out: &mut [u8]) -> FortunaAnswer
     ensures { LeavesBytes (step state.old (request clock out.old)) result state.new out.new }
 {
-    let s = *state;
-    let o = s.random_data(clock, out);
+    let o = state.random_data(clock, out);
     *state = o.next;
-    answer_of(o)
+    answer_of(&o)
 }
 
 #[unsafe(no_mangle)]
 pub extern "C" fn fortuna_update(state: &mut Fortuna, clock: u32, seed: &mut [u8]) -> FortunaAnswer
     ensures { LeavesBytes (step state.old (update clock seed.old)) result state.new seed.new }
 {
-    let s = *state;
-    let o = s.update_seed(clock, seed);
+    let o = state.update_seed(clock, seed);
     *state = o.next;
-    answer_of(o)
+    answer_of(&o)
 }
 
 #[unsafe(no_mangle)]
 pub extern "C" fn fortuna_write(state: &mut Fortuna, clock: u32, seed: &mut [u8]) -> FortunaAnswer
     ensures { LeavesBytes (step state.old (write clock seed.old)) result state.new seed.new }
 {
-    let s = *state;
-    let o = s.write_seed(clock, seed);
+    let o = state.write_seed(clock, seed);
     *state = o.next;
-    answer_of(o)
+    answer_of(&o)
 }

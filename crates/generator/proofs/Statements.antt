@@ -3,6 +3,7 @@
 use mathlib.Core.Path.{◌≡◌, refl, sym, ap, ◌∙◌}
 use mathlib.Core.Bool.{Bool, true, false, cond}
 use mathlib.Core.List.{[]}
+use Rattle.std.specs.Prelude.{Result, Ok, Err}
 use Prim.Native.Nat.{ℕ, ◌<◌, ◌≤◌}
 use native.Mathlib.Nat.{add-zero}
 use lib.Dec.{eqb}
@@ -11,11 +12,11 @@ use Rattle.laws.specs.Blocks.{block_count}
 use Rattle.generator.specs.Counter.{value, little_endian, max_counter}
 use Rattle.generator.specs.Steps.{GeneratorState, decode, encode, generate_blocks, block_data}
 use Rattle.generator.specs.Closed.{after_blocks}
-use Rattle.generator.specs.Operations.{number, blocks_answer, blocks_made}
+use Rattle.generator.specs.Operations.{code, number, blocks_answer, blocks_made}
 use Rattle.generator.specs.Statements.{CounterEncoding, ClosedForm, NoBlocks, NothingAsked, NumberInjective}
 use Rattle.generator.specs.declared.Generator.{Generator}
-use Rattle.generator.specs.declared.answer.Answer.{Answer}
-use Rattle.generator.specs.declared.answer.Answer.TheVariants.{Done, RequestTooLong, SeedTooLong, Malformed, Unseeded, CounterSpent}
+use Rattle.generator.specs.declared.refusal.Refusal.{Refusal}
+use Rattle.generator.specs.declared.refusal.Refusal.TheVariants.{RequestTooLong, SeedTooLong, Malformed, Unseeded, CounterSpent}
 use Rattle.generator.proofs.Digits.{counter-value, value-counter}
 use Rattle.generator.proofs.Steps.{block-data-closed, random-data-closed}
 
@@ -50,17 +51,19 @@ unfolding blocks_made
 nothing-asked g full bytes = rw (no_step (decode g), same-state g full bytes) (either_way (eqb (blocks_answer g []) 0) g)
 
 -- the answer that a number belongs to
-answer_of : ℕ → Answer
-answer_of n = cond (eqb n 0) Done (cond (eqb n 14) RequestTooLong (cond (eqb n 17) SeedTooLong (cond (eqb n 21) Malformed (cond (eqb n 23) Unseeded CounterSpent))))
+answer_of : ℕ → Result Unit Refusal
+answer_of n =
+    cond (eqb n 0) (Ok tt)
+    (Err (cond (eqb n 14) RequestTooLong (cond (eqb n 17) SeedTooLong (cond (eqb n 21) Malformed (cond (eqb n 23) Unseeded CounterSpent)))))
 
-read_back : (a : Answer) → answer_of (number a) ≡ a
-unfolding answer_of number
-read_back Done = refl
-read_back RequestTooLong = refl
-read_back SeedTooLong = refl
-read_back Malformed = refl
-read_back Unseeded = refl
-read_back CounterSpent = refl
+read_back : (a : Result Unit Refusal) → answer_of (number a) ≡ a
+unfolding answer_of code
+read_back (Ok tt) = refl
+read_back (Err RequestTooLong) = refl
+read_back (Err SeedTooLong) = refl
+read_back (Err Malformed) = refl
+read_back (Err Unseeded) = refl
+read_back (Err CounterSpent) = refl
 
 pub number-injective : NumberInjective
 number-injective a b e = sym (read_back a) ∙ ap answer_of e ∙ read_back b

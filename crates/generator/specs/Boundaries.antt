@@ -1,6 +1,6 @@
 -- Boundary rows: each number's last accepted and first refused value, the order of the numbers, the carries of C, and what C grows by.
 -- Assumes nothing.
-use Rattle.std.specs.Prelude.{◌≡◌, [], ◌∷◌, ◌++◌, map, ℕ, ◌+◌, ◌-◌, ◌^◌, replicate}
+use Rattle.std.specs.Prelude.{◌≡◌, [], ◌∷◌, ◌++◌, map, ℕ, ◌-◌, ◌^◌, replicate}
 use Rattle.laws.specs.Blocks.{block_count}
 use Rattle.generator.specs.Counter.{value, little_endian}
 use Rattle.generator.specs.Steps.{GeneratorState, initial, pseudo_random_data}

@@ -1,7 +1,6 @@
 -- C as 16 bytes, least significant first, and as the number that they stand for (004, 9.4.2).
 -- Assumes nothing.
-use Rattle.std.specs.Prelude.{List, [], ◌∷◌, ◌≡◌, length, ℕ, zero, suc, ◌+◌, ◌*◌, ◌/◌, ◌%◌, ◌^◌, ◌-◌}
-use Rattle.cipher.specs.Aes.{Bytes}
+use Rattle.std.specs.Prelude.{List, [], ◌∷◌, ℕ, zero, suc, ◌+◌, ◌*◌, ◌/◌, ◌%◌, ◌^◌, ◌-◌}
 
 -- the sum of p_i 2^(8 i)
 unfoldable pub value : List ℕ → ℕ
@@ -12,10 +11,6 @@ value (p ∷ ps) = p + 256 * value ps
 unfoldable pub little_endian : ℕ → ℕ → List ℕ
 little_endian zero v = []
 little_endian (suc n) v = v % 256 ∷ little_endian n (v / 256)
-
--- what a counter in memory is: 16 bytes
-abbrev pub SixteenBytes : List ℕ → Type 0
-SixteenBytes s = (length s ≡ 16) × Bytes s
 
 -- the largest value of C
 unfoldable pub max_counter : ℕ

@@ -1,21 +1,34 @@
 -- What the generator's methods give: refused by a number, with state and buffer as before, or the step's effect.
 -- Assumes nothing.
-use Rattle.std.specs.Prelude.{List, ℕ, length}
-use Rattle.laws.specs.Refusals.{guarded}
+use Rattle.std.specs.Prelude.{List, ℕ, ◌<◌, length, Result}
+use lib.Dec.{lit<}
+use Rattle.laws.specs.Refusals.{guarded, number_of}
 use Rattle.generator.specs.Steps.{decode, encode, initial, reseed, block_data, pseudo_random_data}
 use Rattle.generator.specs.Refusals.{reseed_number, blocks_number, request_number}
 use Rattle.generator.specs.declared.Generator.{Generator}
-use Rattle.generator.specs.declared.answer.Answer.{Answer}
-use Rattle.generator.specs.declared.answer.Answer.TheVariants.{Done, RequestTooLong, SeedTooLong, Malformed, Unseeded, CounterSpent}
+use Rattle.generator.specs.declared.refusal.Refusal.{Refusal}
+use Rattle.generator.specs.declared.refusal.Refusal.TheVariants.{RequestTooLong, SeedTooLong, Malformed, Unseeded, CounterSpent}
 
--- 01's number of an answer, 0 where the operation was done
-unfoldable pub number : Answer → ℕ
-number Done = 0
-number RequestTooLong = 14
-number SeedTooLong = 17
-number Malformed = 21
-number Unseeded = 23
-number CounterSpent = 24
+-- 01's number of a refusal
+unfoldable pub code : Refusal → ℕ
+code RequestTooLong = 14
+code SeedTooLong = 17
+code Malformed = 21
+code Unseeded = 23
+code CounterSpent = 24
+
+-- 0 is no refusal's
+pub code-above-0 : (refusal : Refusal) → 0 < code refusal
+unfolding code
+code-above-0 RequestTooLong = lit< tt
+code-above-0 SeedTooLong = lit< tt
+code-above-0 Malformed = lit< tt
+code-above-0 Unseeded = lit< tt
+code-above-0 CounterSpent = lit< tt
+
+-- the number of an answer, 0 where the operation was done
+abbrev pub number : Result Unit Refusal → ℕ
+number = number_of code
 
 -- the state before any seed
 unfoldable pub fresh : Generator

@@ -1,6 +1,6 @@
 -- What is proved of the generator's definitions beside its code.
 -- Assumes nothing.
-use Rattle.std.specs.Prelude.{◌≡◌, List, [], ◌++◌, ℕ, ◌+◌, ◌≤◌, ◌<◌, length, get_or, take}
+use Rattle.std.specs.Prelude.{◌≡◌, List, [], ◌++◌, ℕ, ◌+◌, ◌≤◌, ◌<◌, length, get_or, take, Result}
 use Rattle.laws.specs.Lists.{tabulate, joined}
 use Rattle.laws.specs.Blocks.{block_count}
 use Rattle.cipher.specs.Aes.{cipher}
@@ -9,7 +9,7 @@ use Rattle.generator.specs.Steps.{GeneratorState, block_data, pseudo_random_data
 use Rattle.generator.specs.Closed.{closed_block_data, closed_random_data, after_blocks}
 use Rattle.generator.specs.Operations.{number, blocks_made}
 use Rattle.generator.specs.declared.Generator.{Generator}
-use Rattle.generator.specs.declared.answer.Answer.{Answer}
+use Rattle.generator.specs.declared.refusal.Refusal.{Refusal}
 
 -- C as bytes and C as a number are the same thing
 pub record CounterEncoding : Type 0 where
@@ -47,7 +47,7 @@ NothingAsked g = length g.counter ≡ 16 → ((i : ℕ) → get_or g.counter i 0
 
 -- different answers have different numbers
 abbrev pub NumberInjective : Type 0
-NumberInjective = (a b : Answer) → number a ≡ number b → a ≡ b
+NumberInjective = (a b : Result Unit Refusal) → number a ≡ number b → a ≡ b
 
 -- no block stands at two places
 abbrev pub NoRepeat : List (List ℕ) → Type 0

@@ -2,46 +2,50 @@
 ghost use Rattle.std.specs.Prelude.{◌≡◌, ◌+◌, ◌≤◌, length, take};
 ghost use Rattle.laws.specs.Blocks.{block_count};
 ghost use Rattle.word_cipher.specs.Cipher.{word_cipher};
-ghost use Rattle.generator.specs.Counter.{value, little_endian, SixteenBytes, max_counter};
-ghost use Rattle.generator.specs.Closed.{counters, enciphered, bytes_from};
+ghost use Rattle.word_cipher.specs.Tables.{tables};
+ghost use Rattle.generator.specs.Counter.{max_counter};
+ghost use Rattle.generator.specs.Steps.{decode, encode};
+ghost use Rattle.generator.specs.Closed.{counters, enciphered, bytes_from, after_blocks};
 
-use crate::counter::step;
-use laws::part_size;
-use word_cipher::write_block;
+use crate::Generator;
+use crate::counter::{counter_block, value};
+use laws::{block_count, part_size};
+use word_cipher::{tables, write_block};
 
-// Fills the buffer with the blocks from the counter on, and leaves the counter that follows.
-fn fill(tables: &[u32; 1024], words: &[u32; 60], counter: &mut [u8; 16], out: &mut [u8])
-    requires { (value counter.old + block_count (length out.old) ≤ max_counter) × SixteenBytes counter.old }
-    ensures { (counter.new ≡ little_endian 16 (value counter.old + block_count (length out.old)))
-        × (out.new ≡ take (length out.old) (enciphered (word_cipher tables.now words.now)
-        (counters (value counter.old) (block_count (length out.old))))) }
+// Fills the buffer with the blocks from a counter on.
+fn fill(words: &[u32; 60], first: u128, out: &mut [u8])
+    requires { first + block_count (length out.old) ≤ max_counter }
+    ensures { out.new ≡ take (length out.old)
+        (enciphered (word_cipher tables words.now) (counters first (block_count (length out.old)))) }
 {
-    let mut at: usize = 0;
-    while at < out.len() {
-        let size = part_size(out.len() - at);
-        write_block(tables, words, *counter, &mut out[at..at + size]);
-        step(counter);
-        at = at + 16;
+    // Kept: (c) no `chunks_mut(16)`: nothing is known of what then stands in the parts.
+    for k in 0..block_count(out.len()) {
+        let at = 16 * k;
+        let end = at + part_size(out.len() - at);
+        write_block(
+            tables(),
+            words,
+            counter_block(first + k as u128),
+            &mut out[at..end],
+        );
     }
 }
 
-// Fills two buffers in turn with the blocks under the key from the counter on, and gives the counter that follows. The tables
-// are built once and the key is expanded once, for both.
-pub(crate) fn fill_both(
-    key: [u8; 32],
-    counter: [u8; 16],
-    out: &mut [u8],
-    more: &mut [u8],
-) -> [u8; 16]
-    requires { value counter + (block_count (length out.old) + block_count (length more.old)) ≤ max_counter }
-    ensures { (result ≡ little_endian 16 (value counter + (block_count (length out.old) + block_count (length more.old))))
-        × (out.new ≡ bytes_from key (value counter) (length out.old))
-        × (more.new ≡ bytes_from key (value counter + block_count (length out.old)) (length more.old)) }
-{
-    let tables = word_cipher::tables();
-    let schedule = word_cipher::expand_key(key);
-    let mut next = counter;
-    fill(&tables, &schedule.words, &mut next, out);
-    fill(&tables, &schedule.words, &mut next, more);
-    next
+impl Generator {
+    // Fills two buffers in turn with the blocks under the key from the counter on, and gives the state that follows, with the same
+    // key. The key is expanded once for both.
+    pub(crate) fn filled(self, out: &mut [u8], more: &mut [u8]) -> Generator
+        requires { (decode self).count + (block_count (length out.old) + block_count (length more.old)) ≤ max_counter }
+        ensures { (result ≡ encode (after_blocks (decode self) (block_count (length out.old) + block_count (length more.old))))
+            × (out.new ≡ bytes_from self.key (decode self).count (length out.old))
+            × (more.new ≡ bytes_from self.key ((decode self).count + block_count (length out.old)) (length more.old)) }
+    {
+        let first = value(self.counter);
+        let second = first + block_count(out.len()) as u128;
+        let counter = counter_block(second + block_count(more.len()) as u128);
+        let schedule = word_cipher::expand_key(self.key);
+        fill(&schedule.words, first, out);
+        fill(&schedule.words, second, more);
+        Generator { counter, ..self }
+    }
 }

@@ -6,7 +6,7 @@ use Rattle.hash.specs.Padding.{zero_bytes, padding}
 use Rattle.hash.specs.Prepared.{prepared, prepared_round}
 use Rattle.hash.specs.Hasher.{zero_filled, absorb_from, absorb, finish}
 use Rattle.hash.specs.ShaD.{zero_block, D, max_message, max_d_message, max_pool_length, with_zero_block, pool_digest}
-use Rattle.hash.specs.Answers.{length_number}
+use Rattle.hash.specs.Answers.{within, length_number}
 use Rattle.hash.specs.Boundaries.{messages, digests, passed, PaddingsRow, LengthsRow, edge_words, PreparedWordsRow, FirstRoundRow}
 use Rattle.hash.specs.Boundaries.{MessageLimitRow, ShaDLimitRow, PoolLimitRow, StandardRow, EdgesRow, ShaDRow, FinishesRow}
 use Rattle.hash.specs.Boundaries.{PoolDigestsRow, AbsorbsRow, LongestRow, Boundaries}
@@ -29,15 +29,15 @@ unfolding compressing prepared prepared_round
 first_round = refl
 
 message-limit : MessageLimitRow
-unfolding length_number max_message
+unfolding length_number within max_message
 message-limit = refl
 
 sha-d-limit : ShaDLimitRow
-unfolding length_number max_d_message max_message
+unfolding length_number within max_d_message max_message
 sha-d-limit = refl
 
 pool-limit : PoolLimitRow
-unfolding length_number max_pool_length max_d_message max_message
+unfolding length_number within max_pool_length max_d_message max_message
 pool-limit = refl
 
 standard : StandardRow

@@ -1,13 +1,14 @@
 -- What the crates above use of the running hash and of D, instead of their text.
 -- Assumes nothing.
-use Rattle.std.proofs.Common.{◌≡◌, ℕ, ◌+◌, ◌-◌, ◌*◌, ◌/◌, ◌%◌, ◌^◌, ◌<◌, ◌≤◌, List, [], ◌++◌, length, drop, replicate, sym, refl, ap, ◌∙◌, le_trans, zero-add, arith, lit≤, length-append, length-drop, drop_at, le-ltb}
+use Rattle.std.proofs.Common.{◌≡◌, ℕ, ◌+◌, ◌-◌, ◌*◌, ◌/◌, ◌%◌, ◌^◌, ◌<◌, ◌≤◌, List, [], ◌++◌, length, drop, replicate, sym, refl, ap, ◌∙◌, le_trans, zero-add, arith, lit≤, length-append, length-drop, drop_at, ltb, le-ltb, Ok}
 use native.Mathlib.Nat.{div-eq_of_lt}
+use Rattle.laws.proofs.Cases.{by-test}
 use Rattle.laws.proofs.Tabulate.{length-tabulate}
 use Rattle.hash.specs.Constants.{H⁰}
 use Rattle.hash.specs.Sha256.{blocks, digest_from, sha256}
 use Rattle.hash.specs.Hasher.{zero_filled, empty_hasher, hasher_of, absorb_from, absorb, finish}
 use Rattle.hash.specs.ShaD.{zero_block, D, max_message, max_d_message, max_pool_length, empty_pool, pool_of, with_zero_block, pool_digest}
-use Rattle.hash.specs.Answers.{length_number, digest_within, absorbed}
+use Rattle.hash.specs.Answers.{number, length_number, within, absorbed}
 use Rattle.hash.specs.Statements.{PoolGivesD}
 use Rattle.hash.specs.declared.hasher.Hasher.{Hasher}
 use Rattle.hash.proofs.ZeroBlock.{zero-block-hash}
@@ -168,14 +169,19 @@ d-message-room n h = le_trans h (lit≤ tt)
 
 -- ---- answers
 
--- the digest of a message within the limit
-pub digest-within : (limit n : ℕ) (d : List ℕ) → n ≤ limit → digest_within limit n d ≡ d
-unfolding digest_within
-digest-within limit n d h = rw (le-ltb limit n h)
+-- what is handed out for a message within the limit
+pub within-limit : {A : Type 0} (limit n : ℕ) (x : A) → n ≤ limit → within limit n x ≡ Ok x
+unfolding within
+within-limit limit n x h = rw (le-ltb limit n h)
+
+-- the number of what is handed out
+pub number-of-within : {A : Type 0} (limit n : ℕ) (x : A) → number (within limit n x) ≡ length_number limit n
+unfolding within length_number
+number-of-within limit n x = by-test (ltb limit n) _ (λ e. rw e) (λ e. rw e)
 
 -- a message within the limit is accepted
 pub number-within : (limit n : ℕ) → n ≤ limit → length_number limit n ≡ 0
-unfolding length_number
+unfolding within length_number
 number-within limit n h = rw (le-ltb limit n h)
 
 -- the next state of a running hash that stays within the limit

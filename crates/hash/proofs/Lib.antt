@@ -5,10 +5,10 @@ pub mod Prepared
 pub mod Schedule
 pub mod Message
 pub mod Padding
+pub mod BigEndian
 pub mod Absorb
 pub mod Computing
 pub mod ZeroBlock
 pub mod Laws
-pub mod Answers
 pub mod Statements
 pub mod Boundaries

@@ -38,14 +38,10 @@ filled_is t s f b at long fits front back =
     rw (h, none, b', m, append-nil, append_assoc)
 
 -- eight bytes put at the end of a block
-pub last-is : (t b e : List ℕ) → length t ≡ 64 → length b ≡ 8 → e ≡ overwrite (take 8 (drop 56 t)) b
-    → take 56 t ++ (e ++ drop 8 (drop 56 t)) ≡ take 56 t ++ b
-last-is t b e long eight copy =
-    let k : length (drop 56 t) ≡ 8 = rw length-drop (omega arith) in
-    let w : take 8 (drop 56 t) ≡ drop 56 t = take_all 8 (drop 56 t) (omega arith) in
-    let none : drop 8 (drop 56 t) ≡ [] = drop_of_length-le (drop 56 t) {i = 8} (omega arith) in
-    let gone : drop (length b) (drop 56 t) ≡ [] = drop_of_length-le (drop 56 t) {i = length b} (omega arith) in
-    rw (copy, w, overwrite-fits (drop 56 t) b (omega arith), none, gone) (simp append-nil)
+pub last-is : (t b : List ℕ) → length t ≡ 64 → take 56 t ++ (b ++ drop 8 (drop 56 t)) ≡ take 56 t ++ b
+last-is t b long =
+    let none : drop 8 (drop 56 t) ≡ [] = drop_of_length-le (drop 56 t) {i = 8} (rw length-drop (omega arith)) in
+    rw (none, append-nil)
 
 -- the zeros that end in the block of the message's last bytes, and those that go on into one more
 zeros-one : (n : ℕ) → n % 64 < 56 → zero_bytes n ≡ 55 - n % 64

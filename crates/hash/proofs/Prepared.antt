@@ -1,6 +1,6 @@
 -- Prepared words lead where FIPS 180-4's constants and words lead: 02 (ix).
 -- Assumes nothing.
-use Rattle.std.proofs.Common.{◌≡◌, ℕ, zero, suc, ◌+◌, ◌%◌, ◌^◌, List, get_or, sym, refl, ap, ◌∙◌, ap₂, le_refl, add_assoc, zero-add, arith}
+use Rattle.std.proofs.Common.{◌≡◌, ℕ, zero, suc, ◌+◌, ◌%◌, ◌^◌, get_or, sym, refl, ap, ◌∙◌, ap₂, le_refl, add_assoc, zero-add, arith}
 use native.Mathlib.Nat.{add-mod-mod, mod-add-mod}
 use Rattle.laws.proofs.Tabulate.{get_d_tabulate}
 use Rattle.hash.specs.Word.{◌⊞◌, Σ₁, Ch}
@@ -51,7 +51,3 @@ prepared-rounds w t (suc n) s h =
 pub prepared-compression : PreparedCompression
 unfolding prepared_compress compress
 prepared-compression h m = ap (add_working h) (prepared-rounds (schedule m 64) 0 64 (initial_working h) (le_refl 64))
-
--- what comes of a block's prepared words, made of the constants k
-pub by-prepared : (h k m r : List ℕ) → k ≡ K → r ≡ prepared_compress h (prepared k (schedule m 64)) → r ≡ compress h m
-by-prepared h k m r e f = f ∙ rw e (prepared-compression h m)

@@ -1,13 +1,11 @@
 -- The statements of specs/Statements.antt on padding and numbers hold. Those on prepared words are proved in Prepared.antt, those on
 -- the zero block and pools in ZeroBlock.antt and Laws.antt.
 -- Assumes nothing.
-use Rattle.std.proofs.Common.{ℕ, List, refl, arith, length-append}
+use Rattle.std.proofs.Common.{ℕ, List, Ok, Err, refl, arith, length-append}
 use lib.ListN.{length-replicate}
 use Rattle.laws.proofs.Tabulate.{length-tabulate}
 use Rattle.hash.specs.Padding.{zero_bytes, padding}
-use Rattle.hash.specs.Answers.{number}
 use Rattle.hash.specs.Statements.{PaddingLeast, PaddedWhole, NumberInjective}
-use Rattle.hash.specs.declared.answer.Answer.TheVariants.{Done, TooLong}
 
 pub padding-least : (n : ℕ) → PaddingLeast n
 unfolding zero_bytes
@@ -18,8 +16,7 @@ unfolding padding zero_bytes
 padded-whole m = simp (length-append, length-replicate, length-tabulate) (omega arith)
 
 pub number-injective : NumberInjective
-unfolding number
-number-injective Done Done e = refl
-number-injective Done TooLong e = absurd (omega (arith, e))
-number-injective TooLong Done e = absurd (omega (arith, e))
-number-injective TooLong TooLong e = refl
+number-injective (Ok x) (Ok y) e = refl
+number-injective (Ok x) (Err f) e = absurd (omega (arith, e))
+number-injective (Err d) (Ok y) e = absurd (omega (arith, e))
+number-injective (Err d) (Err f) e = refl

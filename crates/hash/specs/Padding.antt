@@ -1,6 +1,6 @@
 -- The padding of a message: FIPS 180-4, 5.1.1. Messages here are whole bytes, so the bit 1 and the first seven zeros are the byte 128.
 -- Assumes nothing.
-use Rattle.std.specs.Prelude.{ℕ, ◌+◌, ◌-◌, ◌*◌, ◌/◌, ◌%◌, ◌^◌, List, ◌∷◌, ◌++◌, replicate}
+use Rattle.std.specs.Prelude.{ℕ, ◌-◌, ◌*◌, ◌/◌, ◌%◌, ◌^◌, List, ◌∷◌, ◌++◌, replicate}
 use Rattle.laws.specs.Lists.{tabulate}
 
 -- byte i of the 64-bit length block, the most significant first; the number is taken modulo 2 ^ 64

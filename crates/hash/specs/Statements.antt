@@ -1,7 +1,7 @@
 -- What FIPS 180-4, 5.1.1 says of the padding, in its own words and in bits; that prepared words lead to the standard's
 -- compression; what a pool has to do with D; and that numbers tell answers apart.
 -- Assumes nothing.
-use Rattle.std.specs.Prelude.{◌≡◌, ℕ, ◌+◌, ◌*◌, ◌%◌, ◌<◌, ◌≤◌, List, ◌++◌, length, slice_index, slice_index_or}
+use Rattle.std.specs.Prelude.{◌≡◌, ℕ, ◌+◌, ◌*◌, ◌%◌, ◌<◌, ◌≤◌, List, ◌++◌, length, slice_index, slice_index_or, Result}
 use Rattle.hash.specs.Padding.{zero_bytes, padding}
 use Rattle.hash.specs.Word.{◌⊞◌}
 use Rattle.hash.specs.Constants.{K, H⁰}
@@ -9,7 +9,7 @@ use Rattle.hash.specs.Block.{schedule, round, rounds, compress}
 use Rattle.hash.specs.Prepared.{prepared, prepared_round, prepared_rounds, prepared_compress}
 use Rattle.hash.specs.ShaD.{zero_block, D, zero_block_hash, pool_of, pool_digest}
 use Rattle.hash.specs.Answers.{number}
-use Rattle.hash.specs.declared.answer.Answer.{Answer}
+use Rattle.hash.specs.declared.answer.TooLong.{TooLong}
 use Rattle.hash.specs.declared.block.Working.{Working}
 
 -- the count of zero bits after the bit 1: seven in the byte 128, eight in each zero byte
@@ -55,4 +55,4 @@ PoolGivesD m = pool_digest (pool_of m) ≡ D m
 
 -- different answers have different numbers
 abbrev pub NumberInjective : Type 0
-NumberInjective = (a b : Answer) → number a ≡ number b → a ≡ b
+NumberInjective = (a b : Result Unit TooLong) → number a ≡ number b → a ≡ b

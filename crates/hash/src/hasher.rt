@@ -1,13 +1,13 @@
 // SHA-256 of a message that comes in parts.
-ghost use Rattle.std.specs.Prelude.{◌≡◌, ◌+◌, ◌/◌, ◌≤◌, length};
-ghost use Rattle.hash.specs.Constants.{K};
-ghost use Rattle.hash.specs.Sha256.{blocks};
+ghost use Rattle.std.specs.Prelude.{◌≡◌, ◌+◌, ◌≤◌, length};
+ghost use Rattle.std.specs.List.{fold};
+ghost use Rattle.hash.specs.Block.{compress};
 ghost use Rattle.hash.specs.Hasher.{empty_hasher, absorb_from, absorb, finish};
 ghost use Rattle.hash.specs.ShaD.{max_message, max_pool_length, empty_pool, pool_digest};
-ghost use Rattle.hash.specs.Answers.{number, length_number, digest_within, absorbed};
+ghost use Rattle.hash.specs.Answers.{within, absorbed};
 
-use crate::answer::{Answer, Hashed, MAX_MESSAGE, MAX_POOL_LENGTH, accepted, refused, too_long};
-use crate::block::{compress, constants};
+use crate::answer::{MAX_MESSAGE, MAX_POOL_LENGTH, TooLong, within};
+use crate::block::compress;
 use crate::bytes::digest_bytes;
 use crate::digest::pool_digest_of;
 use crate::tail::{filled, with_length};
@@ -23,11 +23,7 @@ pub struct Hasher {
 }
 
 // The answer and the next state.
-#[derive(Clone, Copy)]
-pub struct Absorbed {
-    pub answer: Answer,
-    pub next: Hasher,
-}
+pub type Outcome = laws::Outcome<Hasher, TooLong>;
 
 const INITIAL: [u32; 8] = [
     0x6a09_e667,
@@ -53,80 +49,64 @@ const AFTER_ZEROS: [u32; 8] = [
 ];
 
 // The hash value after the whole blocks of data, each read where it stands.
-fn hash_blocks(chain: [u32; 8], k: &[u32; 64], data: &[u8]) -> [u32; 8]
-    requires { k.now ≡ K }
-    ensures { result ≡ blocks (length «data».now / 64) chain «data».now }
+fn hash_blocks(chain: [u32; 8], blocks: &[[u8; 64]]) -> [u32; 8]
+    ensures { result ≡ fold compress chain blocks.now }
 {
     let mut h = chain;
-    let mut at: usize = 0;
-    while data.len() - at >= 64 {
-        let end = at + 64;
-        let next = compress(h, k, &data[at..end]);
+    for block in blocks {
+        // Kept: (c) `h = compress(h, block)` is not proved, since h is an array that the call is passed too; nor is `fold`.
+        let next = compress(h, block);
         h = next;
-        at = end;
     }
     h
 }
 
 // The state after the whole blocks of data, with the rest of data kept.
-fn after_blocks(chain: [u32; 8], k: &[u32; 64], data: &[u8], count: u64) -> Hasher
-    requires { k.now ≡ K }
-    ensures { result ≡ absorb_from chain «data».now count }
+fn after_blocks(chain: [u32; 8], data: &[u8], length: u64) -> Hasher
+    ensures { result ≡ absorb_from chain «data».now length }
 {
-    let next = hash_blocks(chain, k, data);
-    let done = data.len() / 64 * 64;
-    let tail = filled([0u8; 64], 0, &data[done..]);
+    let (blocks, rest) = data.as_chunks::<64>();
     Hasher {
-        chain: next,
-        tail: tail,
-        length: count,
+        chain: hash_blocks(chain, blocks),
+        tail: filled(&[0u8; 64], 0, rest),
+        length,
     }
 }
 
 // The state after data, where the message stays within the limit.
-pub(crate) fn extended(r: Hasher, data: &[u8]) -> Hasher
-    requires { r.length + length «data».now ≤ max_message }
-    ensures { result ≡ absorb r «data».now }
+pub(crate) fn extended(r: &Hasher, data: &[u8]) -> Hasher
+    requires { r.now.length + length «data».now ≤ max_message }
+    ensures { result ≡ absorb r.now «data».now }
 {
-    let chain = r.chain;
-    let tail = r.tail;
     let at = (r.length % 64) as usize;
-    let total = r.length + (data.len() as u64);
-    if data.len() < 64 - at {
-        let next = filled(tail, at, data);
+    let length = r.length + data.len() as u64;
+    let room = 64 - at;
+    if data.len() < room {
         return Hasher {
-            chain: chain,
-            tail: next,
-            length: total,
+            chain: r.chain,
+            tail: filled(&r.tail, at, data),
+            length,
         };
     }
-    let k = constants();
     if at == 0 {
-        return after_blocks(chain, &k, data, total);
+        return after_blocks(r.chain, data, length);
     }
-    let room = 64 - at;
-    let block = filled(tail, at, &data[..room]);
-    let next = compress(chain, &k, &block);
-    after_blocks(next, &k, &data[room..], total)
+    let block = filled(&r.tail, at, &data[..room]);
+    after_blocks(compress(r.chain, &block), &data[room..], length)
 }
 
 // The digest of what r has absorbed, whatever its length.
-pub(crate) fn finished(r: Hasher) -> [u8; 32]
-    ensures { result ≡ finish r }
+pub(crate) fn finished(r: &Hasher) -> [u8; 32]
+    ensures { result ≡ finish r.now }
 {
-    let chain = r.chain;
-    let tail = r.tail;
-    let count = r.length;
-    let at = (count % 64) as usize;
-    let k = constants();
-    let marked = filled(tail, at, &[128u8]);
+    let at = (r.length % 64) as usize;
+    let marked = filled(&r.tail, at, &[128u8]);
     if at < 56 {
-        let last = with_length(marked, count);
-        return digest_bytes(compress(chain, &k, &last));
+        let last = with_length(marked, r.length);
+        return digest_bytes(compress(r.chain, &last));
     }
-    let next = compress(chain, &k, &marked);
-    let last = with_length([0u8; 64], count);
-    digest_bytes(compress(next, &k, &last))
+    let last = with_length([0u8; 64], r.length);
+    digest_bytes(compress(compress(r.chain, &marked), &last))
 }
 
 impl Hasher {
@@ -142,6 +122,7 @@ impl Hasher {
     }
 
     // The state of a pool before any byte, for pool_digest.
+    #[tactic(auto, unfolding(crate::specs::ShaD::empty_pool, crate::specs::ShaD::zero_block_hash))]
     pub fn empty_pool() -> Hasher
         ensures { result ≡ empty_pool }
     {
@@ -153,45 +134,36 @@ impl Hasher {
     }
 
     // The state after data, or the refusal of a message above the limit.
-    pub fn absorb(self, data: &[u8]) -> Absorbed
-        ensures { (number result.answer ≡ length_number max_message (self.length + length «data».now))
+    #[tactic(auto, unfolding(crate::proofs::Computing::limiting, crate::specs::Answers::absorbed))]
+    pub fn absorb(self, data: &[u8]) -> Outcome
+        ensures { (result.answer ≡ within max_message (self.length + length «data».now) tt)
             × (result.next ≡ absorbed self «data».now) }
     {
-        let count = self.length;
-        if too_long(MAX_MESSAGE, count, data.len() as u64) {
-            return Absorbed {
-                answer: Answer::TooLong,
-                next: self,
+        let answer = within(MAX_MESSAGE, self.length, data.len() as u64);
+        if answer.is_ok() {
+            return Outcome {
+                answer,
+                next: extended(&self, data),
             };
         }
-        let next = extended(self, data);
-        Absorbed {
-            answer: Answer::Done,
-            next: next,
-        }
+        Outcome { answer, next: self }
     }
 
     // The digest of what was absorbed. A length above the limit is refused.
-    pub fn finish(self) -> Hashed
-        ensures { (number result.answer ≡ length_number max_message self.length)
-            × (result.digest ≡ digest_within max_message self.length (finish self)) }
+    #[tactic(auto, unfolding(crate::proofs::Computing::limiting))]
+    pub fn finish(self) -> Result<[u8; 32], TooLong>
+        ensures { result ≡ within max_message self.length (finish self) }
     {
-        let count = self.length;
-        if too_long(MAX_MESSAGE, count, 0) {
-            return refused();
-        }
-        accepted(finished(self))
+        within(MAX_MESSAGE, self.length, 0)?;
+        Ok(finished(&self))
     }
 
     // D of what a pool has absorbed. A length above the limit is refused.
-    pub fn pool_digest(self) -> Hashed
-        ensures { (number result.answer ≡ length_number max_pool_length self.length)
-            × (result.digest ≡ digest_within max_pool_length self.length (pool_digest self)) }
+    #[tactic(auto, unfolding(crate::proofs::Computing::limiting))]
+    pub fn pool_digest(self) -> Result<[u8; 32], TooLong>
+        ensures { result ≡ within max_pool_length self.length (pool_digest self) }
     {
-        let count = self.length;
-        if too_long(MAX_POOL_LENGTH, count, 0) {
-            return refused();
-        }
-        accepted(pool_digest_of(self))
+        within(MAX_POOL_LENGTH, self.length, 0)?;
+        Ok(pool_digest_of(self))
     }
 }

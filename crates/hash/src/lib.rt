@@ -9,6 +9,6 @@ mod hasher;
 mod tail;
 mod word;
 
-pub use answer::{Answer, Hashed, max_d_message, max_pool_length};
+pub use answer::{TooLong, max_d_message, max_pool_length};
 pub use digest::{sha_d256, sha_d256_joined, sha256};
-pub use hasher::{Absorbed, Hasher};
+pub use hasher::{Hasher, Outcome};

@@ -8,9 +8,9 @@ use crate::bytes::length_bytes;
 use laws::overwrite;
 
 // The first at bytes of tail, then s, then zeros: whatever stood in the tail after its bytes is gone.
-pub(crate) fn filled(tail: [u8; 64], at: usize, s: &[u8]) -> [u8; 64]
+pub(crate) fn filled(tail: &[u8; 64], at: usize, s: &[u8]) -> [u8; 64]
     requires { at + length s.now ≤ 64 }
-    ensures { result ≡ zero_filled (take at tail ++ s.now) }
+    ensures { result ≡ zero_filled (take at tail.now ++ s.now) }
 {
     let mut block = [0u8; 64];
     overwrite(&mut block, &tail[..at]);
@@ -18,12 +18,10 @@ pub(crate) fn filled(tail: [u8; 64], at: usize, s: &[u8]) -> [u8; 64]
     block
 }
 
-// The last block: the first 56 bytes of t, then the length in bits.
-pub(crate) fn with_length(t: [u8; 64], count: u64) -> [u8; 64]
-    ensures { result ≡ take 56 t ++ tabulate (length_byte (8 * count)) 8 }
+// The last block: the first 56 bytes of block, then the length in bits.
+pub(crate) fn with_length(mut block: [u8; 64], count: u64) -> [u8; 64]
+    ensures { result ≡ take 56 block ++ tabulate (length_byte (8 * count)) 8 }
 {
-    let b = length_bytes(count);
-    let mut block = t;
-    overwrite(&mut block[56..], &b);
+    block[56..].copy_from_slice(&length_bytes(count));
     block
 }

@@ -7,21 +7,21 @@ use mathlib.Core.List.{List, [], ◌∷◌, ◌++◌}
 use Prim.Native.Nat.{ℕ, zero, suc, ◌+◌, ◌-◌, ◌*◌, ◌/◌, ◌≤◌, ◌<◌}
 use native.Mathlib.Numerals.{add-one}
 use native.Mathlib.Omega.{arith}
-use lib.Dec.{eqb, ltb, leb}
+use lib.Dec.{eqb, ltb}
+use Rattle.std.proofs.lemmas.Bool.Decides.{nat_tests}
 use lib.ListN.{length, take, drop, get_or}
 use lib.Seq.{slice, slice_empty, slice-cons, length-slice, take-suc, take-add, take-length, length-take-le, drop-append-le, get_or-drop, get_or-take}
-use borrow.Author.Tests.{le-leb, eq-eqb, ne_eqb, ltb-true, ltb-false, leb-true, leb-false, eqb-true, eqb-false}
+use borrow.Author.Tests.{le-leb, eq-eqb, ltb-true, ltb-false, leb-true, eqb-true, eqb-false}
 use Rattle.laws.specs.Lists.{count_of}
 use Rattle.laws.proofs.Cases.{by-test, split, neither}
 use Rattle.laws.proofs.Counts.{count-append}
-use Rattle.health.specs.Samples.{window_size, run_after, repetition_fails, first_after, count_after, proportion_fails, fails, noted}
-use Rattle.health.specs.Calls.{fresh}
+use Rattle.health.specs.Samples.{window_size, run_after, repetition_fails, first_after, count_after, proportion_fails, noted}
+use Rattle.health.specs.Calls.{passed, fresh}
 use Rattle.health.specs.Statements.{sample_at, noted_all, repetition_fails_at, proportion_fails_at, fails_at, IsFirst}
 use Rattle.health.specs.Closed.{LastEqual, run_ending_at, RunLaw, window_start, count_at, WindowLaw, FailsByLaw, open_window}
 use Rattle.health.specs.Closed.{state_after, StateLaw, FailsNeither, FailsFirst, FirstFailureClosedLaw}
 use Rattle.health.specs.declared.HealthState.{HealthState}
 use Rattle.health.specs.declared.Outcome.{Outcome}
-use Rattle.health.specs.declared.Answer.TheVariants.{Passed}
 use Rattle.health.proofs.Cutting.{accepted-again}
 use Rattle.health.proofs.Failing.{first-failure}
 
@@ -69,9 +69,7 @@ module _ (samples : List ℕ) where
 
   broken : (k n : ℕ) → (x (suc k) ≡ x k → ⊥) → LastEqual n samples (suc k) ↔ (n ≤ 1)
   broken k n e = (
-    λ h.
-        by-test (leb n 1) (n ≤ 1) (λ t. leb-true n 1 t)
-        (λ t. let l = leb-false n 1 t in absurd (e (sym (h.1 k (omega arith) (omega arith))))),
+    λ h. grind (arith, h.1 k),
     λ h. last-alone (suc k) n h,
   )
 
@@ -88,57 +86,49 @@ runs = run-longest
 -- ---- counts
 
 eqb_comm : (a b : ℕ) → eqb a b ≡ eqb b a
-eqb_comm a b =
-    by-test (eqb b a) (eqb a b ≡ eqb b a) (λ t. rw t (eq-eqb a b (sym (eqb-true b a t)))) (λ t. rw t (ne_eqb a b (λ q. eqb-false b a t (sym q))))
+eqb_comm a b = grind (arith, nat_tests)
 
 count-single : (a y : ℕ) → count_of a (y ∷ []) ≡ cond (eqb y a) 1 0
 unfolding count_of
-count-single a y = rw (eqb_comm a y) (omega arith)
+count-single a y = grind (arith, nat_tests)
 
 count-one : (a : ℕ) → count_of a (a ∷ []) ≡ 1
 count-one a = count-single a a ∙ rw (eq-eqb a a refl)
 
 count-more : (a : ℕ) (ys : List ℕ) (y : ℕ) → count_of a (ys ++ (y ∷ [])) ≡ cond (eqb y a) (count_of a ys + 1) (count_of a ys)
 count-more a ys y =
-    rw (count-append a ys (y ∷ []), count-single a y)
-    (split (λ (n : ℕ). count_of a ys + cond (eqb y a) 1 0 ≡ n) (eqb y a) (λ t. rw t) (λ t. rw t (omega arith)))
+    grind (arith, nat_tests, count-append a ys (y ∷ []), count-single a y)
 
 -- ---- windows
 
 start-below : (k : ℕ) → window_start k ≤ k
-unfolding window_size
 start-below k = omega arith
 
 start-near : (k : ℕ) → k < window_start k + 512
-unfolding window_size
 start-near k = omega arith
 
 -- the next place starts a window, or goes on in this one
 start-next : (k : ℕ) → (k - window_start k) + 1 ≡ 512 → window_start (suc k) ≡ suc k
-unfolding window_size
 start-next k h = omega arith
 
 start-stays : (k : ℕ) → ((k - window_start k) + 1 ≡ 512 → ⊥) → window_start (suc k) ≡ window_start k
-unfolding window_size
 start-stays k h =
-    by-test (ltb (k - window_start k + 1) 512) (window_start (suc k) ≡ window_start k)
-    (λ t. let l = ltb-true (k - window_start k + 1) 512 t in omega arith)
-    (λ t. let l = ltb-false (k - window_start k + 1) 512 t in absurd (h (omega arith)))
+    grind arith
 
 module _ (samples : List ℕ) where
   -- the state's fields, also of no samples
   state-first : (k : ℕ) → (state_after samples k).first ≡ get_or (open_window samples k) 0 0
-  unfolding state_after fresh window_size
+  unfolding state_after fresh
   state-first zero = refl
   state-first (suc k) = refl
 
   state-count : (k : ℕ) → (state_after samples k).count ≡ count_of (get_or (open_window samples k) 0 0) (open_window samples k)
-  unfolding state_after fresh window_size count_of
+  unfolding state_after fresh count_of
   state-count zero = refl
   state-count (suc k) = refl
 
   state-length : (k : ℕ) → (state_after samples k).seen ≡ length (open_window samples k)
-  unfolding state_after fresh window_size
+  unfolding state_after fresh
   state-length zero = refl
   state-length (suc k) = refl
 
@@ -147,7 +137,7 @@ module _ (samples : List ℕ) where
 
   run-closed : (k : ℕ) → run_after (state_after samples k) (sample_at samples k) ≡ run_ending_at samples k
   unfolding run_after state_after fresh run_ending_at
-  run-closed zero = split (λ (n : ℕ). n ≡ 1) (eqb (sample_at samples 0) 0) (λ _. refl) (λ _. refl)
+  run-closed zero = grind (arith, nat_tests)
   run-closed (suc k) = refl
 
   -- the first sample of a part
@@ -179,8 +169,7 @@ module _ (samples : List ℕ) where
 
     past-start : (s.seen ≡ 0 → ⊥) → w < k
     past-start h =
-        by-test (ltb w k) (w < k) (λ t. ltb-true w k t)
-        (λ t. let l = ltb-false w k t in absurd (h (omega (arith, state-seen k (omega arith)))))
+        let e = state-seen k (omega arith) in grind arith
 
     first-closed : first_after s y ≡ sample_at samples w
     unfolding first_after
@@ -220,7 +209,7 @@ module _ (samples : List ℕ) where
         rw (q, l, head-is w (suc k) (omega (arith, start-below k)), run-closed k, first-closed, count-closed, add-one k)
 
     noted-closed : noted s y ≡ state_after samples (suc k)
-    unfolding noted run_after window_size
+    unfolding noted run_after
     noted-closed =
         split (λ (t : HealthState). t ≡ state_after samples (suc k)) (eqb (s.seen + 1) 512)
         (λ t. full-next (eqb-true (s.seen + 1) 512 t)) (λ t. more-next (eqb-false (s.seen + 1) 512 t))
@@ -242,11 +231,9 @@ slice-grows a b c v samples h g l =
 
 -- the places of a window, and its last
 window-of : (k n : ℕ) → k / window_size ≡ n → window_start k ≡ window_size * n
-unfolding window_size
 window-of k n e = omega arith
 
 last_of : (n : ℕ) → (window_size * n + 511) / window_size ≡ n
-unfolding window_size
 last_of n = omega arith
 
 module _ (cutoff : ℕ) (samples : List ℕ) (n : ℕ) (whole : window_size * (n + 1) ≤ length samples) where
@@ -254,14 +241,12 @@ module _ (cutoff : ℕ) (samples : List ℕ) (n : ℕ) (whole : window_size * (n
   whole_count = count_of (sample_at samples (window_size * n)) (slice (window_size * n) (window_size * (n + 1)) samples)
 
   window-within : (k : ℕ) → k / window_size ≡ n → cutoff ≤ count_at samples k → cutoff ≤ whole_count
-  unfolding window_size
   window-within k e h =
       let g = slice-grows (512 * n) (k + 1) (512 * (n + 1)) (sample_at samples (512 * n)) samples (omega arith) (omega arith) (omega arith) in
       let f : cutoff ≤ count_of (sample_at samples (512 * n)) (slice (512 * n) (k + 1) samples) = rw (window-of k n e) at h in
       omega arith
 
   window-last : cutoff ≤ whole_count → cutoff ≤ count_at samples (window_size * n + 511)
-  unfolding window_size
   window-last h =
       let q : 512 * n + 511 + 1 ≡ 512 * (n + 1) = omega arith in
       rw (window-of (512 * n + 511) n (last_of n), q) h
@@ -296,8 +281,10 @@ module _ (samples : List ℕ) (k : ℕ) (inside : k < length samples) where
   repetition-by : (cutoff : ℕ) → (repetition_fails cutoff before (sample_at samples k) ≡ true) ↔ LastEqual cutoff samples k
   unfolding repetition_fails
   repetition-by cutoff =
-      rw run-before
-      (λ e. (runs samples k cutoff).1 (leb-true cutoff (run_ending_at samples k) e), λ h. le-leb cutoff (run_ending_at samples k) ((runs samples k cutoff).0 h))
+      rw run-before (
+        λ e. (runs samples k cutoff).1 (leb-true cutoff (run_ending_at samples k) e),
+        λ h. le-leb cutoff (run_ending_at samples k) ((runs samples k cutoff).0 h),
+      )
 
   proportion-by : (cutoff : ℕ) → (proportion_fails cutoff before (sample_at samples k) ≡ true) ↔ (cutoff ≤ count_at samples k)
   unfolding proportion_fails
@@ -328,13 +315,11 @@ module _ (r p : ℕ) (samples : List ℕ) where
   crowds k = proportion_fails_at p fresh samples k
 
   fails-neither : (k : ℕ) → k < length samples → fails_at r p fresh samples k ≡ false → FailsNeither r p samples k
-  unfolding fails
   fails-neither k l e =
       let n = neither (repeats k) (crowds k) e in
       (λ h. false-not-true (repeats k) n.0 ((repetition-by samples k l r).1 h), λ h. false-not-true (crowds k) n.1 ((proportion-by samples k l p).1 h))
 
   passes_at : (k : ℕ) → k < length samples → FailsNeither r p samples k → fails_at r p fresh samples k ≡ false
-  unfolding fails
   passes_at k l n =
       rw (
         not-true-false (repeats k) (λ e. n.0 ((repetition-by samples k l r).0 e)),
@@ -342,7 +327,6 @@ module _ (r p : ℕ) (samples : List ℕ) where
       )
 
   first-there : (k : ℕ) → IsFirst r p fresh samples k → FailsFirst r p samples k (repeats k) (crowds k)
-  unfolding fails
   first-there k h = record {
     inside = h.inside;
     before = λ j l. fails-neither j (omega (arith, h.inside)) (h.before j (omega arith));
@@ -352,7 +336,6 @@ module _ (r p : ℕ) (samples : List ℕ) where
   }
 
   is-first : (k : ℕ) (x y : Bool) → FailsFirst r p samples k x y → IsFirst r p fresh samples k × (x ≡ repeats k) × (y ≡ crowds k)
-  unfolding fails
   is-first k x y f =
       let R = repetition-by samples k f.inside r in
       let P = proportion-by samples k f.inside p in
@@ -365,10 +348,10 @@ module _ (r p : ℕ) (samples : List ℕ) where
   fails-first k x y h = rw (h.1, h.2) (first-there k h.0)
 
   -- the state left, both ways of writing it
-  passed-closed : ◌≡◌ {A = Outcome} (record { answer = Passed; next = noted_all fresh samples })
-      (record { answer = Passed; next = state_after samples (length samples) })
+  passed-closed : ◌≡◌ {A = Outcome} (record { answer = passed; next = noted_all fresh samples })
+      (record { answer = passed; next = state_after samples (length samples) })
   passed-closed =
-      ap (λ (s : HealthState). record { answer = Passed; next = s })
+      ap (λ (s : HealthState). record { answer = passed; next = s })
       (ap (noted_all fresh) (sym (take-length samples)) ∙ state-closed samples (length samples) (omega arith))
 
 pub first-failure-closed : FirstFailureClosedLaw

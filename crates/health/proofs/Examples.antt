@@ -2,14 +2,14 @@
 -- Assumes nothing.
 use mathlib.Core.Path.{refl}
 use Rattle.laws.specs.Lists.{joined, count_of}
-use Rattle.health.specs.Samples.{window_size, run_after, repetition_fails, first_after, count_after, proportion_fails, fails, noted, test_from}
-use Rattle.health.specs.Calls.{out_of_range, any_of, malformed, fresh, failed_at, outcome_of, tested, number}
+use Rattle.health.specs.Samples.{run_after, repetition_fails, first_after, count_after, proportion_fails, noted, test_from}
+use Rattle.health.specs.Calls.{malformed, fresh, outcome_of, tested}
 use Rattle.health.specs.Closed.{run_ending_at, state_after}
 use Rattle.health.specs.Examples.{Examples}
 
 pub examples : Examples
-unfolding joined window_size run_after repetition_fails first_after count_after proportion_fails fails noted test_from
-    out_of_range any_of malformed fresh failed_at outcome_of tested number count_of run_ending_at state_after
+unfolding joined run_after repetition_fails first_after count_after proportion_fails noted test_from
+    malformed fresh outcome_of tested count_of run_ending_at state_after
 examples = record {
   range = (refl, refl);
   order = (refl, refl, refl, refl, refl);

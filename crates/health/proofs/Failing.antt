@@ -4,26 +4,25 @@ use mathlib.Core.Path.{◌≡◌, refl, sym, ap, ap₂, subst, ◌∙◌}
 use mathlib.Core.Bool.{Bool, true, false}
 use mathlib.Core.Logic.{◌⊎◌, inl, inr, ⊎_elim}
 use mathlib.Core.List.{List, [], ◌∷◌}
+use Rattle.std.specs.Prelude.{Some, None, Ok, Err}
 use Prim.Native.Nat.{ℕ, zero, suc, ◌+◌, ◌≤◌, ◌<◌}
 use native.Mathlib.Omega.{arith}
-use lib.Dec.{ltb}
 use lib.ListN.{length}
-use borrow.Author.Tests.{ltb-true, ltb-false}
+use native.Mathlib.Numerals.{add-one}
+use Rattle.std.proofs.Common.{below_more}
 use Rattle.laws.proofs.Cases.{by-test}
-use Rattle.health.specs.Samples.{noted, passed, failed, test_from}
-use Rattle.health.specs.Calls.{out_of_range, malformed, fresh, outcome_of, tested}
+use Rattle.health.specs.Samples.{noted, failure, test_from}
+use Rattle.health.specs.Calls.{Answer, passed, failed, out_of_range, malformed, fresh, outcome_of, tested}
 use Rattle.health.specs.Statements.{noted_all, repetition_fails_at, proportion_fails_at, fails_at, NoneFails, IsFirst, FirstFailure, FirstFailureLaw}
 use Rattle.health.specs.declared.HealthState.{HealthState}
 use Rattle.health.specs.declared.Outcome.{Outcome}
-use Rattle.health.specs.declared.Answer.{Answer}
-use Rattle.health.specs.declared.Answer.TheVariants.{Passed, Failed, CutoffRange, Malformed}
 use Rattle.health.proofs.Walks.{not-refused}
 use Rattle.health.proofs.Numbers.{accepted}
 use Rattle.health.proofs.Cutting.{pass_step, fail-step, passed-outcome, failed-outcome}
 
 -- ---- a walk
 
-none-fails : (r p k : ℕ) (s : HealthState) (xs : List ℕ) → NoneFails r p s xs → test_from r p k s xs ≡ passed (noted_all s xs)
+none-fails : (r p k : ℕ) (s : HealthState) (xs : List ℕ) → NoneFails r p s xs → test_from r p k s xs ≡ Ok (noted_all s xs)
 unfolding noted_all
 none-fails r p k s [] h = unfold test_from in refl
 none-fails r p k s (x ∷ xs) h =
@@ -31,7 +30,7 @@ none-fails r p k s (x ∷ xs) h =
     ∙ none-fails r p (suc k) (noted s x) xs (λ j l. h (suc j) (omega arith))
 
 fail-at : (r p n : ℕ) (s : HealthState) (xs : List ℕ) (k : ℕ) → k < length xs → ((j : ℕ) → j < k → fails_at r p s xs j ≡ false)
-    → fails_at r p s xs k ≡ true → test_from r p n s xs ≡ failed (n + k) (repetition_fails_at r s xs k) (proportion_fails_at p s xs k)
+    → fails_at r p s xs k ≡ true → test_from r p n s xs ≡ Err (failure (n + k) (repetition_fails_at r s xs k) (proportion_fails_at p s xs k))
 unfolding noted_all
 fail-at r p n s [] k l h w = absurd (omega arith)
 fail-at r p n s (x ∷ xs) zero l h w = let q : n + 0 ≡ n = omega arith in rw q (fail-step r p n s x xs w)
@@ -53,38 +52,34 @@ module _ (r p : ℕ) (s : HealthState) (xs : List ℕ) where
       here : ((k : ℕ) → k < n → fails_at r p s xs k ≡ false) → Looked (suc n)
       here all =
           by-test (fails_at r p s xs n) (Looked (suc n)) (λ t. inr (n, record { inside = h; before = all; here = t }))
-          (λ t. inl (λ k l. by-test (ltb k n) (fails_at r p s xs k ≡ false) (λ u. all k (ltb-true k n u))
-          (λ u.
-          let m = ltb-false k n u in
-          let q : n ≡ k = omega arith in
-          subst (λ (i : ℕ). fails_at r p s xs i ≡ false) q t)))
+          (λ t. inl (rw (← add-one n) (below_more _ n all t)))
 
   -- ---- the call
 
   module _ (a : out_of_range r ≡ false) (b : out_of_range p ≡ false) (m : malformed r p s ≡ false) where
-    all_pass : NoneFails r p s xs → tested r p s xs ≡ record { answer = Passed; next = noted_all s xs }
+    all_pass : NoneFails r p s xs → tested r p s xs ≡ record { answer = passed; next = noted_all s xs }
     all_pass h = not-refused r p s xs a b m ∙ ap outcome_of (none-fails r p 0 s xs h) ∙ passed-outcome (noted_all s xs)
 
     stops_at : (k : ℕ) → IsFirst r p s xs k
-        → tested r p s xs ≡ record { answer = Failed k (repetition_fails_at r s xs k) (proportion_fails_at p s xs k); next = fresh }
+        → tested r p s xs ≡ record { answer = failed k (repetition_fails_at r s xs k) (proportion_fails_at p s xs k); next = fresh }
     stops_at k h =
         let q : 0 + k ≡ k = omega arith in
         not-refused r p s xs a b m
         ∙ ap outcome_of (rw q at (fail-at r p 0 s xs k h.inside h.before h.here))
-        ∙ failed-outcome k _ _
+        ∙ failed-outcome _
 
     -- what an answer says of the samples
     Told : Answer → Type 0
-    Told Passed = NoneFails r p s xs
-    Told (Failed k x y) = IsFirst r p s xs k × (x ≡ repetition_fails_at r s xs k) × (y ≡ proportion_fails_at p s xs k)
-    Told CutoffRange = ⊥
-    Told Malformed = ⊥
+    Told (Ok None) = NoneFails r p s xs
+    Told (Ok (Some f)) =
+        IsFirst r p s xs f.place × (f.repetition ≡ repetition_fails_at r s xs f.place) × (f.proportion ≡ proportion_fails_at p s xs f.place)
+    Told (Err refusal) = ⊥
 
-    told-passed : NoneFails r p s xs → Told Passed
+    told-passed : NoneFails r p s xs → Told passed
     unfolding Told
     told-passed h = h
 
-    told-failed : (k : ℕ) → IsFirst r p s xs k → Told (Failed k (repetition_fails_at r s xs k) (proportion_fails_at p s xs k))
+    told-failed : (k : ℕ) → IsFirst r p s xs k → Told (failed k (repetition_fails_at r s xs k) (proportion_fails_at p s xs k))
     unfolding Told
     told-failed k h = (h, refl, refl)
 
@@ -95,18 +90,18 @@ module _ (r p : ℕ) (s : HealthState) (xs : List ℕ) where
     told : (o : Outcome) → tested r p s xs ≡ o → Told o.answer
     told o e = subst Told (ap (λ (o : Outcome). o.answer) e) (told-by (looked (length xs) (omega arith)))
 
-    passes-told : tested r p s xs ≡ record { answer = Passed; next = noted_all s xs } → NoneFails r p s xs
+    passes-told : tested r p s xs ≡ record { answer = passed; next = noted_all s xs } → NoneFails r p s xs
     unfolding Told
     passes-told e = told _ e
 
-    failure-told : (k : ℕ) (x y : Bool) → tested r p s xs ≡ record { answer = Failed k x y; next = fresh }
+    failure-told : (k : ℕ) (x y : Bool) → tested r p s xs ≡ record { answer = failed k x y; next = fresh }
         → IsFirst r p s xs k × (x ≡ repetition_fails_at r s xs k) × (y ≡ proportion_fails_at p s xs k)
     unfolding Told
     failure-told k x y e = told _ e
 
     fails-there : (k : ℕ) (x y : Bool) → IsFirst r p s xs k × (x ≡ repetition_fails_at r s xs k) × (y ≡ proportion_fails_at p s xs k)
-        → tested r p s xs ≡ record { answer = Failed k x y; next = fresh }
-    fails-there k x y f = stops_at k f.0 ∙ ap₂ (λ (v w : Bool). record { answer = Failed k v w; next = fresh }) (sym f.1) (sym f.2)
+        → tested r p s xs ≡ record { answer = failed k x y; next = fresh }
+    fails-there k x y f = stops_at k f.0 ∙ ap₂ (λ (v w : Bool). record { answer = failed k v w; next = fresh }) (sym f.1) (sym f.2)
 
     first : FirstFailure r p s xs
     first = record {

@@ -1,5 +1,4 @@
 pub mod States
-pub mod Checks
 pub mod Walks
 pub mod Numbers
 pub mod Cutting

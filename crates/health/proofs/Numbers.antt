@@ -1,74 +1,52 @@
 -- The number of a call, and what an accepted call has passed.
 -- Assumes nothing.
-use mathlib.Core.Path.{◌≡◌, refl, sym, subst, ◌∙◌}
+use mathlib.Core.Path.{◌≡◌, refl}
 use mathlib.Core.Bool.{false, ◌||◌}
 use mathlib.Core.List.{List}
+use Rattle.std.specs.Prelude.{Result, Ok, Err}
 use Prim.Native.Nat.{ℕ, ◌<◌}
 use native.Mathlib.Omega.{arith}
+use Rattle.std.proofs.lemmas.Bool.Decides.{nat_tests}
 use Rattle.laws.specs.Refusals.{refuse}
-use Rattle.laws.proofs.Cases.{by-test, neither}
-use Rattle.laws.proofs.Refusals.{passed as passed-test}
-use Rattle.health.specs.Samples.{Result, passed, failed, test_from}
-use Rattle.health.specs.Calls.{out_of_range, malformed, failed_at, outcome_of, tested, number}
+use Rattle.health.specs.Samples.{test_from}
+use Rattle.health.specs.Calls.{out_of_range, malformed, outcome_of, tested, number}
 use Rattle.health.specs.Statements.{RefusalLaw, NumberTells}
 use Rattle.health.specs.declared.HealthState.{HealthState}
-use Rattle.health.specs.declared.Outcome.{Outcome}
-use Rattle.health.specs.declared.Answer.TheVariants.{Passed, Failed, CutoffRange, Malformed}
-use Rattle.health.proofs.Walks.{refused-first, refused-second, refused-state, not-refused}
+use Rattle.health.specs.declared.Failure.{Failure}
+use Rattle.health.specs.declared.refusals.Refusal.TheVariants.{CutoffRange, Malformed}
 
 pub number-tells : NumberTells
-unfolding number
-number-tells Passed b h e = absurd (omega arith)
-number-tells (Failed place x y) b h e = absurd (omega arith)
-number-tells CutoffRange Passed h e = absurd (omega arith)
-number-tells CutoffRange (Failed place x y) h e = absurd (omega arith)
-number-tells CutoffRange CutoffRange h e = refl
-number-tells CutoffRange Malformed h e = absurd (omega arith)
-number-tells Malformed Passed h e = absurd (omega arith)
-number-tells Malformed (Failed place x y) h e = absurd (omega arith)
-number-tells Malformed CutoffRange h e = absurd (omega arith)
-number-tells Malformed Malformed h e = refl
+number-tells (Ok tested) b h e = absurd (omega arith)
+number-tells (Err a) (Ok tested) h e = absurd (omega arith)
+number-tells (Err CutoffRange) (Err CutoffRange) h e = refl
+number-tells (Err CutoffRange) (Err Malformed) h e = absurd (omega arith)
+number-tells (Err Malformed) (Err CutoffRange) h e = absurd (omega arith)
+number-tells (Err Malformed) (Err Malformed) h e = refl
 
 -- samples that were tested have number 0
-result-number : (w : Result) → number (outcome_of w).answer ≡ 0
-unfolding outcome_of failed_at number
-result-number (passed t) = refl
-result-number (failed place x y) = refl
+result-number : (w : Result HealthState Failure) → number (outcome_of w).answer ≡ 0
+unfolding outcome_of
+result-number (Ok t) = refl
+result-number (Err f) = refl
 
 module _ (r p : ℕ) (s : HealthState) (xs : List ℕ) where
   abbrev chain : ℕ
   chain = refuse (out_of_range r || out_of_range p) 34 (refuse (malformed r p s) 35 0)
 
-  abbrev Ruled : Outcome → Type 0
-  Ruled o = (number o.answer ≡ chain) × (0 < number o.answer → o.next ≡ s)
+  by-number : number (tested r p s xs).answer ≡ chain
+  unfolding tested
+  by-number = grind (arith, nat_tests, result-number (test_from r p 0 s xs))
 
-  ruled-range : chain ≡ 34 → Ruled (record { answer = CutoffRange; next = s })
-  unfolding number
-  ruled-range e = (sym e, λ _. refl)
-
-  ruled-state : chain ≡ 35 → Ruled (record { answer = Malformed; next = s })
-  unfolding number
-  ruled-state e = (sym e, λ _. refl)
-
-  ruled-result : (w : Result) → chain ≡ 0 → Ruled (outcome_of w)
-  ruled-result w e = (result-number w ∙ sym e, λ h. absurd (omega (arith, result-number w)))
-
-  ruled : Ruled (tested r p s xs)
-  ruled =
-      by-test (out_of_range r) (Ruled (tested r p s xs)) (λ a. subst Ruled (refused-first r p s xs a) (ruled-range (rw a)))
-      (λ a. by-test (out_of_range p) (Ruled (tested r p s xs)) (λ b. subst Ruled (refused-second r p s xs a b) (ruled-range (rw (a, b))))
-      (λ b. by-test (malformed r p s) (Ruled (tested r p s xs)) (λ m. subst Ruled (refused-state r p s xs a b m) (ruled-state (rw (a, b, m))))
-      (λ m. subst Ruled (sym (not-refused r p s xs a b m)) (ruled-result (test_from r p 0 s xs) (rw (a, b, m))))))
+  state-stays : 0 < number (tested r p s xs).answer → (tested r p s xs).next ≡ s
+  unfolding tested
+  state-stays h = grind (arith, nat_tests, result-number (test_from r p 0 s xs))
 
   -- what an accepted call has passed
   pub accepted : number (tested r p s xs).answer ≡ 0 → (out_of_range r ≡ false) × (out_of_range p ≡ false) × (malformed r p s ≡ false)
-  accepted e =
-      let first = passed-test (out_of_range r || out_of_range p) 34 (refuse (malformed r p s) 35 0) (omega arith) (sym ruled.0 ∙ e) in
-      let cutoffs = neither (out_of_range r) (out_of_range p) first.0 in
-      (cutoffs.0, cutoffs.1, (passed-test (malformed r p s) 35 0 (omega arith) first.1).0)
+  accepted e = grind (arith, nat_tests, by-number)
 
   pub accepts : out_of_range r ≡ false → out_of_range p ≡ false → malformed r p s ≡ false → number (tested r p s xs).answer ≡ 0
-  accepts a b m = ruled.0 ∙ rw (a, b, m)
+  accepts a b m = grind (arith, nat_tests, by-number)
 
 pub refusals : RefusalLaw
-refusals r p s xs = record { by_number = (ruled r p s xs).0; state-stays = (ruled r p s xs).1 }
+refusals r p s xs = record { by_number = by-number r p s xs; state-stays = state-stays r p s xs }

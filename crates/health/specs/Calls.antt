@@ -1,20 +1,23 @@
 -- A call of the tests: what it refuses, and what it comes to.
 -- Assumes nothing.
-use Rattle.std.specs.Prelude.{Bool, false, cond, not, ◌&&◌, ◌||◌, List, [], ◌∷◌, ℕ, eqb, ltb, leb}
-use Rattle.health.specs.Samples.{window_size, Result, passed, failed, test_from}
+use Rattle.std.specs.Prelude.{Bool, false, cond, not, ◌&&◌, ◌||◌, List, [], ◌∷◌, ℕ, ◌<◌, eqb, ltb, leb, Option, Some, None, Result, Ok, Err}
+use Rattle.std.proofs.Common.{lit<}
+use Rattle.laws.specs.Refusals.{number_of}
+use Rattle.health.specs.Samples.{window_size, failure, test_from}
 use Rattle.health.specs.declared.HealthState.{HealthState}
 use Rattle.health.specs.declared.Outcome.{Outcome}
-use Rattle.health.specs.declared.Answer.{Answer}
-use Rattle.health.specs.declared.Answer.TheVariants.{Passed, Failed, CutoffRange, Malformed}
+use Rattle.health.specs.declared.Failure.{Failure}
+use Rattle.health.specs.declared.refusals.Refusal.{Refusal}
+use Rattle.health.specs.declared.refusals.Refusal.TheVariants.{CutoffRange, Malformed}
 
 -- ---- refusals
 
 -- 34: a cutoff below 2 or above 512
-unfoldable pub out_of_range : ℕ → Bool
+abbrev pub out_of_range : ℕ → Bool
 out_of_range cutoff = ltb cutoff 2 || ltb window_size cutoff
 
 -- one of these holds
-unfoldable pub any_of : List Bool → Bool
+abbrev pub any_of : List Bool → Bool
 any_of [] = false
 any_of (t ∷ ts) = t || any_of ts
 
@@ -32,31 +35,54 @@ malformed repetition proportion s =
     ∷ (eqb s.run 0 && not (eqb s.last 0))
     ∷ [])
 
+-- the cutoffs are looked at first, then the state
+abbrev pub checked : ℕ → ℕ → HealthState → Result Unit Refusal
+checked repetition proportion s =
+    cond (out_of_range repetition || out_of_range proportion) (Err CutoffRange)
+    (cond (malformed repetition proportion s) (Err Malformed)
+    (Ok tt))
+
 -- ---- the call
+
+-- no failure where every sample passed; the first that failed; a refusal
+abbrev pub Answer : Type 0
+Answer = Result (Option Failure) Refusal
+
+abbrev pub passed : Answer
+passed = Ok None
+
+abbrev pub failed : ℕ → Bool → Bool → Answer
+failed place by_repetition by_proportion = Ok (Some (failure place by_repetition by_proportion))
 
 -- a fresh state is all 0
 unfoldable pub fresh : HealthState
 fresh = record { last = 0; run = 0; first = 0; count = 0; seen = 0 }
 
 -- the first failing sample ends the run, and the state is fresh again
-unfoldable pub failed_at : ℕ → Bool → Bool → Outcome
-failed_at place by_repetition by_proportion = record { answer = Failed place by_repetition by_proportion; next = fresh }
+abbrev pub failed_at : ℕ → Bool → Bool → Outcome
+failed_at place by_repetition by_proportion = record { answer = failed place by_repetition by_proportion; next = fresh }
 
 -- where every sample passes, the state carries over
-unfoldable pub outcome_of : Result → Outcome
-outcome_of (passed next) = record { answer = Passed; next = next }
-outcome_of (failed place by_repetition by_proportion) = failed_at place by_repetition by_proportion
+unfoldable pub outcome_of : Result HealthState Failure → Outcome
+outcome_of (Ok next) = record { answer = passed; next = next }
+outcome_of (Err f) = failed_at f.place f.repetition f.proportion
 
 -- the cutoffs are looked at first, then the state; a refusal leaves the state as it was
 unfoldable pub tested : ℕ → ℕ → HealthState → List ℕ → Outcome
 tested repetition proportion s samples =
-    cond (out_of_range repetition || out_of_range proportion) (record { answer = CutoffRange; next = s })
-    (cond (malformed repetition proportion s) (record { answer = Malformed; next = s })
+    cond (out_of_range repetition || out_of_range proportion) (record { answer = Err CutoffRange; next = s })
+    (cond (malformed repetition proportion s) (record { answer = Err Malformed; next = s })
     (outcome_of (test_from repetition proportion 0 s samples)))
 
+-- 02's number of a refusal, never 0
+abbrev pub code : Refusal → ℕ
+code CutoffRange = 34
+code Malformed = 35
+
+pub code-above-0 : (refusal : Refusal) → 0 < code refusal
+code-above-0 CutoffRange = lit< tt
+code-above-0 Malformed = lit< tt
+
 -- 02's number of an answer, 0 where the samples were tested
-unfoldable pub number : Answer → ℕ
-number Passed = 0
-number (Failed place by_repetition by_proportion) = 0
-number CutoffRange = 34
-number Malformed = 35
+abbrev pub number : Answer → ℕ
+number = number_of code

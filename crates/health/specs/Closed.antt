@@ -1,14 +1,14 @@
 -- A second reading of SP 800-90B, 4.4.1 and 4.4.2: which sample fails, by the places of the samples alone and with no state, and the state after
 -- samples of a fresh start.
 -- Assumes nothing.
-use Rattle.std.specs.Prelude.{◌≡◌, Bool, true, false, cond, ◌||◌, ◌↔◌, ◌⊎◌, List, [], ◌∷◌, ℕ, zero, suc, ◌+◌, ◌*◌, ◌/◌, ◌≤◌, ◌<◌, eqb, length, take, get_or}
+use Rattle.std.specs.Prelude.{◌≡◌, Bool, true, false, cond, ◌||◌, ◌↔◌, ◌⊎◌, List, eqb, length, take, get_or}
+use Rattle.std.specs.Prelude.{ℕ, zero, suc, ◌+◌, ◌*◌, ◌/◌, ◌≤◌, ◌<◌}
 use Rattle.std.proofs.Math.Seq.{slice}
 use Rattle.laws.specs.Lists.{count_of}
 use Rattle.health.specs.Samples.{window_size}
-use Rattle.health.specs.Calls.{out_of_range, fresh, tested}
+use Rattle.health.specs.Calls.{out_of_range, passed, failed, fresh, tested}
 use Rattle.health.specs.Statements.{sample_at, noted_all, repetition_fails_at, proportion_fails_at}
 use Rattle.health.specs.declared.HealthState.{HealthState}
-use Rattle.health.specs.declared.Answer.TheVariants.{Passed, Failed}
 
 -- ---- 4.4.1
 
@@ -95,11 +95,11 @@ pub record FirstFailureClosed (repetition proportion : ℕ) (samples : List ℕ)
       ((k : ℕ) → k < length samples → FailsNeither repetition proportion samples k)
       ⊎ ((k : ℕ) × (by_repetition : Bool) × (by_proportion : Bool) × FailsFirst repetition proportion samples k by_repetition by_proportion)
   pub passes :
-      (tested repetition proportion fresh samples ≡ record { answer = Passed; next = state_after samples (length samples) })
+      (tested repetition proportion fresh samples ≡ record { answer = passed; next = state_after samples (length samples) })
       ↔ ((k : ℕ) → k < length samples → FailsNeither repetition proportion samples k)
   pub fails :
       (k : ℕ) (by_repetition by_proportion : Bool) →
-      (tested repetition proportion fresh samples ≡ record { answer = Failed k by_repetition by_proportion; next = fresh })
+      (tested repetition proportion fresh samples ≡ record { answer = failed k by_repetition by_proportion; next = fresh })
       ↔ FailsFirst repetition proportion samples k by_repetition by_proportion
 
 abbrev pub FirstFailureClosedLaw : Type 0

@@ -1,11 +1,12 @@
 -- One sample after the other: the repetition count test (SP 800-90B, 4.4.1) and the adaptive proportion test (4.4.2), whose A and B the state
 -- keeps. Both are looked at for each sample.
 -- Assumes nothing.
-use Rattle.std.specs.Prelude.{Bool, cond, ◌||◌, List, [], ◌∷◌, ℕ, suc, ◌+◌, eqb, leb}
+use Rattle.std.specs.Prelude.{Bool, cond, ◌||◌, List, [], ◌∷◌, ℕ, suc, ◌+◌, eqb, leb, Result, Ok, Err}
 use Rattle.health.specs.declared.HealthState.{HealthState}
+use Rattle.health.specs.declared.Failure.{Failure}
 
 -- W, the samples of a window
-unfoldable pub window_size : ℕ
+abbrev pub window_size : ℕ
 window_size = 512
 
 -- ---- 4.4.1: A is the last sample, B how often it has come in a row
@@ -35,7 +36,7 @@ proportion_fails cutoff s x = leb cutoff (count_after s x)
 -- ---- both
 
 -- a sample fails one of them or both
-unfoldable pub fails : ℕ → ℕ → HealthState → ℕ → Bool
+abbrev pub fails : ℕ → ℕ → HealthState → ℕ → Bool
 fails repetition proportion s x = repetition_fails repetition s x || proportion_fails proportion s x
 
 -- the state after a sample that fails neither; a full window sets its three fields to 0
@@ -45,15 +46,14 @@ noted s x =
     (record { last = x; run = run_after s x; first = 0; count = 0; seen = 0 })
     (record { last = x; run = run_after s x; first = first_after s x; count = count_after s x; seen = s.seen + 1 })
 
--- what a run of samples comes to: the state left, or the first sample that fails, by its place, and whether it fails each test
-pub data Result : Type 0 where
-  passed : (next : HealthState) → Result
-  failed : (place : ℕ) (by_repetition by_proportion : Bool) → Result
+-- a sample that fails, by its place, and whether it fails each test
+abbrev pub failure : ℕ → Bool → Bool → Failure
+failure place by_repetition by_proportion = record { place = place; repetition = by_repetition; proportion = by_proportion }
 
--- the samples from a place on
-unfoldable pub test_from : ℕ → ℕ → ℕ → HealthState → List ℕ → Result
-test_from repetition proportion place s [] = passed s
+-- what the samples from a place on come to: the state left, or the first sample that fails
+unfoldable pub test_from : ℕ → ℕ → ℕ → HealthState → List ℕ → Result HealthState Failure
+test_from repetition proportion place s [] = Ok s
 test_from repetition proportion place s (x ∷ xs) =
     cond (fails repetition proportion s x)
-    (failed place (repetition_fails repetition s x) (proportion_fails proportion s x))
+    (Err (failure place (repetition_fails repetition s x) (proportion_fails proportion s x)))
     (test_from repetition proportion (suc place) (noted s x) xs)

@@ -1,14 +1,13 @@
 -- What is proved of the tests: refusals, the states that calls leave, samples cut elsewhere, and which sample fails first.
 -- Assumes nothing.
-use Rattle.std.specs.Prelude.{◌≡◌, Bool, true, false, ◌||◌, ◌↔◌, ◌⊎◌, List, [], ◌∷◌, ℕ, ◌+◌, ◌<◌, length, take, get_or}
+use Rattle.std.specs.Prelude.{◌≡◌, Bool, true, false, ◌||◌, ◌↔◌, ◌⊎◌, List, [], ◌∷◌, length, take, get_or}
+use Rattle.std.specs.Prelude.{ℕ, ◌+◌, ◌<◌, Some, None, Ok, Err}
 use Rattle.laws.specs.Lists.{joined}
 use Rattle.laws.specs.Refusals.{refuse}
 use Rattle.health.specs.Samples.{repetition_fails, proportion_fails, fails, noted}
-use Rattle.health.specs.Calls.{out_of_range, malformed, fresh, tested, number}
+use Rattle.health.specs.Calls.{Answer, passed, failed, out_of_range, malformed, fresh, tested, number}
 use Rattle.health.specs.declared.HealthState.{HealthState}
 use Rattle.health.specs.declared.Outcome.{Outcome}
-use Rattle.health.specs.declared.Answer.{Answer}
-use Rattle.health.specs.declared.Answer.TheVariants.{Passed, Failed, CutoffRange, Malformed}
 
 -- ---- refusals
 
@@ -41,17 +40,15 @@ pub record AcceptedAgain (repetition proportion : ℕ) : Type 0 where
 
 -- n samples came before
 unfoldable pub later : ℕ → Answer → Answer
-later n Passed = Passed
-later n (Failed place by_repetition by_proportion) = Failed (n + place) by_repetition by_proportion
-later n CutoffRange = CutoffRange
-later n Malformed = Malformed
+later n (Ok None) = passed
+later n (Ok (Some f)) = failed (n + f.place) f.repetition f.proportion
+later n (Err refusal) = Err refusal
 
 -- what a call came to on n samples, and the next call on the state that it left; nothing is read after a failing sample or a refusal
 unfoldable pub onward_from : ℕ → Answer → HealthState → (HealthState → Outcome) → Outcome
-onward_from n Passed s rest = record { answer = later n (rest s).answer; next = (rest s).next }
-onward_from n (Failed place by_repetition by_proportion) s rest = record { answer = Failed place by_repetition by_proportion; next = s }
-onward_from n CutoffRange s rest = record { answer = CutoffRange; next = s }
-onward_from n Malformed s rest = record { answer = Malformed; next = s }
+onward_from n (Ok None) s rest = record { answer = later n (rest s).answer; next = (rest s).next }
+onward_from n (Ok (Some f)) s rest = record { answer = Ok (Some f); next = s }
+onward_from n (Err refusal) s rest = record { answer = Err refusal; next = s }
 
 -- a call for each of the parts, one after the other; places are counted from the first part's first sample
 unfoldable pub in_parts : ℕ → ℕ → HealthState → List (List ℕ) → Outcome
@@ -103,11 +100,11 @@ pub record IsFirst (repetition proportion : ℕ) (s : HealthState) (samples : Li
 pub record FirstFailure (repetition proportion : ℕ) (s : HealthState) (samples : List ℕ) : Type 0 where
   pub either : NoneFails repetition proportion s samples ⊎ ((k : ℕ) × IsFirst repetition proportion s samples k)
   pub passes :
-      (tested repetition proportion s samples ≡ record { answer = Passed; next = noted_all s samples })
+      (tested repetition proportion s samples ≡ record { answer = passed; next = noted_all s samples })
       ↔ NoneFails repetition proportion s samples
   pub fails :
       (k : ℕ) (by_repetition by_proportion : Bool) →
-      (tested repetition proportion s samples ≡ record { answer = Failed k by_repetition by_proportion; next = fresh })
+      (tested repetition proportion s samples ≡ record { answer = failed k by_repetition by_proportion; next = fresh })
       ↔ (IsFirst repetition proportion s samples k
       × (by_repetition ≡ repetition_fails_at repetition s samples k)
       × (by_proportion ≡ proportion_fails_at proportion s samples k))

@@ -5,12 +5,12 @@
 mod refusals;
 mod sample;
 
-ghost use Rattle.std.specs.Prelude.{◌≡◌, false};
-ghost use Rattle.health.specs.Samples.{test_from};
-ghost use Rattle.health.specs.Calls.{out_of_range, malformed, fresh, failed_at, outcome_of, tested, number};
+ghost use Rattle.std.specs.Prelude.{◌≡◌};
+ghost use Rattle.health.specs.Calls.{fresh, tested};
 
-use crate::refusals::{is_malformed, out_of_range};
-use crate::sample::{count_after, noted, run_after};
+use crate::refusals::Cutoffs;
+use crate::sample::Tests;
+pub use refusals::Refusal;
 
 // Between two samples: the last one and how often it has come in a row; the first of the window, how often it has come there, and how many
 // samples the window has.
@@ -24,45 +24,25 @@ pub struct HealthState {
     pub seen: u32,
 }
 
-// Every sample passed; the first that failed, by its place and the tests that it failed; 34; 35.
+// The first sample that failed: its place, and which tests it failed.
 #[derive(Clone, Copy)]
-pub enum Answer {
-    Passed,
-    Failed {
-        place: usize,
-        repetition: bool,
-        proportion: bool,
-    },
-    CutoffRange,
-    Malformed,
+pub struct Failure {
+    pub place: usize,
+    pub repetition: bool,
+    pub proportion: bool,
 }
 
-impl Answer {
-    // The refusal's number; 0 where the samples were tested, also where one failed.
-    pub fn number(self) -> u32
-        ensures { result ≡ number self }
-    {
-        match self {
-            Answer::Passed => 0,
-            Answer::Failed {
-                place: _,
-                repetition: _,
-                proportion: _,
-            } => 0,
-            Answer::CutoffRange => 34,
-            Answer::Malformed => 35,
-        }
-    }
-}
-
+// No failure where every sample passed. A failure is no refusal: its number is 0.
+// Kept: (d) no laws::Outcome, whose answer carries nothing: a type parameter for this one use would stand in all the others.
 #[derive(Clone, Copy)]
 pub struct Outcome {
-    pub answer: Answer,
+    pub answer: Result<Option<Failure>, Refusal>,
     pub next: HealthState,
 }
 
 impl HealthState {
     // The fresh state: all 0.
+    #[tactic(auto, unfolding(crate::specs::Calls::fresh))]
     pub fn new() -> HealthState
         ensures { result ≡ fresh }
     {
@@ -75,68 +55,34 @@ impl HealthState {
         }
     }
 
-    // The tests over a run of samples, each with its cutoff.
+    // The tests over a run of samples, each with its cutoff. A failing sample ends them, and the state is fresh again.
+    #[tactic(auto, unfolding(crate::specs::Calls::tested, crate::specs::Calls::outcome_of, crate::specs::Calls::malformed))]
     pub fn test(self, samples: &[u32], repetition: u32, proportion: u32) -> Outcome
         ensures { result ≡ tested repetition proportion self samples.now }
     {
-        if out_of_range(repetition) {
-            return Outcome {
-                answer: Answer::CutoffRange,
-                next: self,
-            };
-        }
-        if out_of_range(proportion) {
-            return Outcome {
-                answer: Answer::CutoffRange,
-                next: self,
-            };
-        }
-        if is_malformed(self, repetition, proportion) {
-            return Outcome {
-                answer: Answer::Malformed,
-                next: self,
-            };
-        }
-        walk(self, samples, repetition, proportion)
-    }
-}
-
-// The first failing sample ends the run.
-fn failed(place: usize, repetition: bool, proportion: bool) -> Outcome
-    ensures { result ≡ failed_at place repetition proportion }
-{
-    Outcome {
-        answer: Answer::Failed {
-            place,
+        let cutoffs = Cutoffs {
             repetition,
             proportion,
-        },
-        next: HealthState::new(),
-    }
-}
-
-// The samples in turn, up to the first that fails.
-fn walk(mut state: HealthState, samples: &[u32], repetition: u32, proportion: u32) -> Outcome
-    requires { (out_of_range repetition ≡ false) × (out_of_range proportion ≡ false) × (malformed repetition proportion state ≡ false) }
-    ensures { result ≡ outcome_of (test_from repetition proportion 0 state samples.now) }
-{
-    let mut i: usize = 0;
-    while i < samples.len() {
-        let sample = samples[i];
-        let run = run_after(state, sample);
-        let count = count_after(state, sample);
-        if repetition <= run {
-            return failed(i, true, proportion <= count);
+        };
+        if let Err(refusal) = cutoffs.check(self) {
+            return Outcome {
+                answer: Err(refusal),
+                next: self,
+            };
         }
-        if proportion <= count {
-            return failed(i, false, true);
+        let tests = Tests {
+            cutoffs,
+            state: self,
+        };
+        match tests.walk(samples) {
+            Ok(next) => Outcome {
+                answer: Ok(None),
+                next,
+            },
+            Err(failure) => Outcome {
+                answer: Ok(Some(failure)),
+                next: HealthState::new(),
+            },
         }
-        let next = noted(state, sample);
-        state = next;
-        i += 1;
-    }
-    Outcome {
-        answer: Answer::Passed,
-        next: state,
     }
 }

@@ -3,6 +3,7 @@
 use mathlib.Core.Path.{◌≡◌, refl, sym, ap, subst₂, ◌∙◌}
 use mathlib.Core.Bool.{true, false}
 use mathlib.Core.List.{List, [], ◌∷◌, ◌++◌}
+use Rattle.std.specs.Prelude.{Some, None, Ok, Err}
 use Prim.Native.Nat.{ℕ, suc, ◌+◌, ◌-◌, ◌/◌, ◌%◌, ◌≤◌, ◌<◌}
 use native.Mathlib.Numerals.{add-one, add-two, add-three}
 use native.Mathlib.Omega.{arith}
@@ -13,9 +14,10 @@ use borrow.Author.Tests.{lt-ltb, le-leb, ltb-true, leb-true, eqb-true, eqb-false
 use Rattle.laws.proofs.Cases.{by-test, both}
 use Rattle.pools.specs.Events.{max_source, max_data, header, header_length, event_bytes, gain}
 use Rattle.history.specs.Strings.{Event, bytes_of, Allowed}
-use Rattle.history.specs.Reader.{source_at, length_at, whole_at, size_at, data_at, entry_at, number, found_event}
+use Rattle.history.specs.Reader.{entry, the_end, no_event, source_at, length_at, whole_at, size_at, data_at, entry_at, found_event}
 use Rattle.history.specs.Statements.{Bytes, RefusalLaw, Stands, EntryLaw, EntryLaws}
-use Rattle.history.specs.declared.answer.Answer.TheVariants.{Found, End, NoEvent}
+use Rattle.history.specs.declared.answer.Entry.{Entry}
+use Rattle.history.specs.declared.answer.NoEvent.{NoEvent}
 use Rattle.history.proofs.Strings.{length-bytes, same-event}
 
 -- ---- an event that stands in a string
@@ -56,7 +58,7 @@ module _ (front rest : List ℕ) (e : Event) where
   unfolding gain header_length
   not_end h = omega (arith, length-around)
 
-  found_here : Allowed e → entry_at around (length front) ≡ Found e.source (length front + header_length) (length front + length (bytes_of e))
+  found_here : Allowed e → entry_at around (length front) ≡ entry e.source (length front + header_length) (length front + length (bytes_of e))
   unfolding entry_at
   found_here a = rw (ne_eqb (length front) (length around) not_end, whole_here a, source-here, length-here, length-bytes e)
 
@@ -161,11 +163,11 @@ module _ (string : List ℕ) (place : ℕ) (bytes : Bytes string) (w : whole_at 
 -- ---- what the reader finds
 
 pub data Finding (string : List ℕ) (place : ℕ) : Type 0 where
-  at-end : place ≡ length string → entry_at string place ≡ End → Finding string place
+  at-end : place ≡ length string → entry_at string place ≡ the_end → Finding string place
   at-event :
       (place ≡ length string → ⊥) → whole_at string place ≡ true →
-      entry_at string place ≡ Found (source_at string place) (place + header_length) (place + gain (length_at string place)) → Finding string place
-  at-nothing : (place ≡ length string → ⊥) → whole_at string place ≡ false → entry_at string place ≡ NoEvent place → Finding string place
+      entry_at string place ≡ entry (source_at string place) (place + header_length) (place + gain (length_at string place)) → Finding string place
+  at-nothing : (place ≡ length string → ⊥) → whole_at string place ≡ false → entry_at string place ≡ no_event place → Finding string place
 
 pub finding : (string : List ℕ) (place : ℕ) → Finding string place
 unfolding entry_at
@@ -178,36 +180,43 @@ finding string place =
 
 -- an allowed event that stands there is found
 pub at_place : (e : Event) (string : List ℕ) (place : ℕ) → Allowed e → Stands e string place →
-    (entry_at string place ≡ Found e.source (place + header_length) (place + length (bytes_of e)))
+    (entry_at string place ≡ entry e.source (place + header_length) (place + length (bytes_of e)))
     × (found_event string e.source (place + header_length) (place + length (bytes_of e)) ≡ e) × (data_at string place ≡ e.content)
 at_place e string place a s =
     subst₂
     (λ (l : List ℕ) (p : ℕ).
-    (entry_at l p ≡ Found e.source (p + header_length) (p + length (bytes_of e)))
+    (entry_at l p ≡ entry e.source (p + header_length) (p + length (bytes_of e)))
     × (found_event l e.source (p + header_length) (p + length (bytes_of e)) ≡ e) × (data_at l p ≡ e.content))
     (sym s.whole) s.starts
     (found_here s.front s.rest e a, event-here s.front s.rest e, data-here s.front s.rest e a)
 
-pub entry-end : (string : List ℕ) (place : ℕ) → place ≡ length string → entry_at string place ≡ End
+pub entry-end : (string : List ℕ) (place : ℕ) → place ≡ length string → entry_at string place ≡ the_end
 unfolding entry_at
 entry-end string place h = rw (eq-eqb place (length string) h)
 
 -- ---- the answers differ
 
-found-end : (s f n : ℕ) → Found s f n ≡ End → ⊥
-found-end s f n h = let z : ◌≡◌ {A = ℕ} 0 1 = cc in omega arith
+found-end : (s f n : ℕ) → entry s f n ≡ the_end → ⊥
+found-end s f n h = cc
 
-found_nothing : (s f n p : ℕ) → Found s f n ≡ NoEvent p → ⊥
-found_nothing s f n p h = let z : ◌≡◌ {A = ℕ} 0 1 = cc in omega arith
+found_nothing : (s f n p : ℕ) → entry s f n ≡ no_event p → ⊥
+found_nothing s f n p h = cc
 
-end-nothing : (p : ℕ) → End ≡ NoEvent p → ⊥
-end-nothing p h = let z : ◌≡◌ {A = ℕ} 0 1 = cc in omega arith
+end-nothing : (p : ℕ) → the_end ≡ no_event p → ⊥
+end-nothing p h = cc
+
+same_entry : (s f n t g m : ℕ) → entry s f n ≡ entry t g m → (s ≡ t) × (f ≡ g) × (n ≡ m)
+same_entry s f n t g m h =
+    let e : ◌≡◌ {A = Entry} (record { source = s; from = f; next = n }) (record { source = t; from = g; next = m }) = cc in
+    (ap (λ (x : Entry). x.source) e, ap (λ (x : Entry). x.from) e, ap (λ (x : Entry). x.next) e)
+
+same_place : (p q : ℕ) → no_event p ≡ no_event q → p ≡ q
+same_place p q h = let e : ◌≡◌ {A = NoEvent} (record { place = p }) (record { place = q }) = cc in ap (λ (x : NoEvent). x.place) e
 
 pub refusals : RefusalLaw
-unfolding number
-refusals (Found source from next) = (λ h. absurd (omega arith), λ h. absurd (found_nothing source from next h.0 h.1))
-refusals End = (λ h. absurd (omega arith), λ h. absurd (end-nothing h.0 h.1))
-refusals (NoEvent place) = (λ h. (place, refl), λ h. refl)
+refusals (Ok (Some e)) = (λ h. absurd (omega arith), λ h. cc)
+refusals (Ok None) = (λ h. absurd (omega arith), λ h. cc)
+refusals (Err refusal) = (λ h. (refusal.place, refl), λ h. refl)
 
 -- ---- the law at a place
 
@@ -224,29 +233,27 @@ module _ (string : List ℕ) (place : ℕ) (bytes : Bytes string) where
   next-is w = rw (length-bytes (event_here string place), length-is string place bytes w)
 
   -- what is found
-  found-stands : (source from next : ℕ) → entry_at string place ≡ Found source from next → Finding string place →
+  found-stands : (source from next : ℕ) → entry_at string place ≡ entry source from next → Finding string place →
       let e = found_event string source from next in
       Allowed e × Stands e string place × (from ≡ place + header_length) × (next ≡ place + length (bytes_of e))
   found-stands source from next h (at-end _ e) = absurd (found-end source from next (sym h ∙ e))
   found-stands source from next h (at-nothing _ w e) = absurd (found_nothing source from next place (sym h ∙ e))
   found-stands source from next h (at-event _ w e) =
-      let p : source_at string place ≡ source = cc in
-      let q : place + header_length ≡ from = cc in
-      let r : place + gain (length_at string place) ≡ next = cc in
-      rw (← p, ← q, ← r) (here-allowed string place bytes w, stands_here w, refl, next-is w)
+      let p = same_entry _ _ _ source from next (sym e ∙ h) in
+      rw (← p.0, ← p.1, ← p.2) (here-allowed string place bytes w, stands_here w, refl, next-is w)
 
-  ends : entry_at string place ≡ End → Finding string place → place ≡ length string
+  ends : entry_at string place ≡ the_end → Finding string place → place ≡ length string
   ends h (at-end p _) = p
   ends h (at-event _ w e) = absurd (found-end _ _ _ (sym e ∙ h))
   ends h (at-nothing _ w e) = absurd (end-nothing place (sym h ∙ e))
 
-  refuses : (p : ℕ) → entry_at string place ≡ NoEvent p → Finding string place → (p ≡ place) × (place ≡ length string → ⊥)
+  refuses : (p : ℕ) → entry_at string place ≡ no_event p → Finding string place → (p ≡ place) × (place ≡ length string → ⊥)
   refuses p h (at-end _ e) = absurd (end-nothing p (sym e ∙ h))
   refuses p h (at-event _ w e) = absurd (found_nothing _ _ _ p (sym e ∙ h))
-  refuses p h (at-nothing n w e) = (cc, n)
+  refuses p h (at-nothing n w e) = (same_place p place (sym h ∙ e), n)
 
   nothing-there : (place ≡ length string → ⊥) → ((e : Event) → Allowed e → Stands e string place → ⊥) → Finding string place
-      → entry_at string place ≡ NoEvent place
+      → entry_at string place ≡ no_event place
   nothing-there n none (at-end p _) = absurd (n p)
   nothing-there n none (at-event _ w e) = absurd (none (event_here string place) (here-allowed string place bytes w) (stands_here w))
   nothing-there n none (at-nothing _ w e) = e
@@ -267,7 +274,7 @@ module _ (string : List ℕ) (place : ℕ) (bytes : Bytes string) where
       λ h.
           let r = refuses p h (finding string place) in
           (r.0, r.1, λ e a s. found_nothing _ _ _ p (sym (at_place e string place a s).0 ∙ h)),
-      λ h. nothing-there h.1 h.2 (finding string place) ∙ ap NoEvent (sym h.0),
+      λ h. nothing-there h.1 h.2 (finding string place) ∙ ap no_event (sym h.0),
     );
     nothing = no-data;
   }

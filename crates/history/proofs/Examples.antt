@@ -10,18 +10,20 @@ use Rattle.pools.specs.Calls.{input_number, state_number, run_from, state_from}
 use Rattle.quotas.specs.Entries.{list_number, entry_number, entry_step}
 use Rattle.reference.specs.Runs.{run, state_after}
 use Rattle.reference.specs.Timer.{pool_reseeds, reseeds_after, requests}
-use Rattle.reference.specs.Provenance.{erased, traced_fresh, due_for, puts_into, use_of, next_uses, traced_reseed, traced_accepted, traced_step, traced_from, traced}
+use Rattle.reference.specs.Provenance.{erased, traced_fresh, due_for, puts_into, use_of, next_uses}
+use Rattle.reference.specs.Provenance.{traced_reseed, traced_accepted, traced_step, traced_from, traced}
 use Rattle.reference.proofs.Computing.{answering, adding, emptying}
 use Rattle.history.specs.Strings.{bytes_of, string_of}
-use Rattle.history.specs.Reader.{source_at, length_at, whole_at, size_at, data_at, entry_at, number, found_event, then_read, history_from, history}
-use Rattle.history.specs.Runs.{booked_event, accepted_event, accepted_from, booked_for, waiting_in, made, entered_at, uses_of, strings_at, string_in, read_into, worked_out}
+use Rattle.history.specs.Reader.{source_at, length_at, whole_at, size_at, data_at, entry_at, found_event, then_read, history_from, history}
+use Rattle.history.specs.Runs.{booked_event, accepted_event, accepted_from, booked_for, waiting_in, made}
+use Rattle.history.specs.Runs.{entered_at, uses_of, strings_at, string_in, read_into, worked_out}
 use Rattle.history.specs.RunStatements.{events_into}
 use Rattle.history.specs.Examples.{Examples}
 
 -- an event's bytes, and the reader
 reading : Unit {0}
 unfolding joined max_data header header_length event_bytes gain bytes_of string_of
-    source_at length_at whole_at size_at data_at entry_at number found_event then_read history_from history
+    source_at length_at whole_at size_at data_at entry_at found_event then_read history_from history
 reading = tt
 
 -- the station's steps, without the cipher

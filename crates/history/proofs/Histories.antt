@@ -11,12 +11,11 @@ use lib.Seq.{drop-length}
 use Rattle.laws.specs.Lists.{joined}
 use Rattle.pools.specs.Events.{header_length, gain}
 use Rattle.history.specs.Strings.{Event, bytes_of, string_of, Allowed, AllAllowed}
-use Rattle.history.specs.Reader.{length_at, entry_at, found_event, History, then_read, history_from, history}
+use Rattle.history.specs.Reader.{entry, the_end, no_event, Answer, length_at, entry_at, found_event, History, then_read, history_from, history}
 use Rattle.history.specs.Statements.{Bytes, Stands, ReadBack, HistoryLaws}
-use Rattle.history.specs.declared.answer.Answer.{Answer}
-use Rattle.history.specs.declared.answer.Answer.TheVariants.{Found, End, NoEvent}
 use Rattle.history.proofs.Strings.{length-bytes}
-use Rattle.history.proofs.Entries.{event_here, Finding, at-end, at-event, at-nothing, finding, at_place, here-allowed, here-stands, tested, next-is, entry-end, entry-laws}
+use Rattle.history.proofs.Entries.{event_here, Finding, at-end, at-event, at-nothing, finding, at_place}
+use Rattle.history.proofs.Entries.{here-allowed, here-stands, tested, next-is, entry-end, entry-laws}
 
 first-allowed : (e : Event) (es : List Event) → AllAllowed (e ∷ es) → Allowed e
 first-allowed e es a = a e (Memᴰ.head refl)
@@ -31,7 +30,7 @@ cons-allowed e es a b x m = ⊎_elim (λ q. subst Allowed (sym q) a) (λ n. b x 
 led : Event → History → History
 led e h = record { events = e ∷ h.events; number = h.number; place = h.place }
 
-found-led : (n : ℕ) (string : List ℕ) (place source from next : ℕ) → entry_at string place ≡ Found source from next
+found-led : (n : ℕ) (string : List ℕ) (place source from next : ℕ) → entry_at string place ≡ entry source from next
     → history_from (suc n) string place ≡ led (found_event string source from next) (history_from n string next)
 unfolding history_from led
 found-led n string place source from next h =
@@ -41,12 +40,12 @@ found-led n string place source from next h =
 complete : List Event → List ℕ → History
 complete es string = record { events = es; number = 0; place = length string }
 
-at-the-end : (n : ℕ) (string : List ℕ) (place : ℕ) → entry_at string place ≡ End
+at-the-end : (n : ℕ) (string : List ℕ) (place : ℕ) → entry_at string place ≡ the_end
     → history_from (suc n) string place ≡ complete [] string
 unfolding history_from complete
 at-the-end n string place h = ap (λ (x : Answer). then_read string x (history_from n string)) h ∙ (unfold then_read in refl)
 
-at-no-event : (n : ℕ) (string : List ℕ) (place p : ℕ) → entry_at string place ≡ NoEvent p
+at-no-event : (n : ℕ) (string : List ℕ) (place p : ℕ) → entry_at string place ≡ no_event p
     → history_from (suc n) string place ≡ record { events = []; number = 44; place = p }
 unfolding history_from
 at-no-event n string place p h = ap (λ (x : Answer). then_read string x (history_from n string)) h ∙ (unfold then_read in refl)
@@ -100,12 +99,12 @@ record Reads (string : List ℕ) (place : ℕ) (h : History) : Type 0 where
   front : drop place string ≡ string_of h.events ++ drop h.place string
   reached : place + length (string_of h.events) ≡ h.place
   stops :
-      ((h.number ≡ 0) × (entry_at string h.place ≡ End)) ⊎ ((h.number ≡ 44) × (entry_at string h.place ≡ NoEvent h.place))
+      ((h.number ≡ 0) × (entry_at string h.place ≡ the_end)) ⊎ ((h.number ≡ 44) × (entry_at string h.place ≡ no_event h.place))
 
 pub none_allowed : AllAllowed []
 none_allowed x m = absurd (Memᴰ.not-nil m)
 
-ends-reads : (string : List ℕ) (place : ℕ) → place ≡ length string → entry_at string place ≡ End → Reads string place (complete [] string)
+ends-reads : (string : List ℕ) (place : ℕ) → place ≡ length string → entry_at string place ≡ the_end → Reads string place (complete [] string)
 unfolding complete string_of joined
 ends-reads string place p e =
     record {
@@ -116,7 +115,7 @@ ends-reads string place p e =
     }
 
 refused-reads :
-    (string : List ℕ) (place : ℕ) → entry_at string place ≡ NoEvent place →
+    (string : List ℕ) (place : ℕ) → entry_at string place ≡ no_event place →
     Reads string place (record { events = []; number = 44; place = place })
 unfolding string_of joined
 refused-reads string place e = record { allowed = none_allowed; front = refl; reached = omega arith; stops = inr (refl, e) }
@@ -166,7 +165,7 @@ module _ (string : List ℕ) (bytes : Bytes string) where
   gives : (history string).number ≡ 0 → string_of (history string).events ≡ string
   gives h = ⊎_elim (λ s. ended s.1) (λ s. absurd (omega (arith, s.0))) reads.stops
     where
-      ended : entry_at string (history string).place ≡ End → string_of (history string).events ≡ string
+      ended : entry_at string (history string).place ≡ the_end → string_of (history string).events ≡ string
       ended e =
           let there : (history string).place ≡ length string = (entry-laws string (history string).place bytes).end.0 e in
           sym

@@ -4,11 +4,10 @@ use Rattle.std.specs.Prelude.{◌≡◌, true, false, List, [], ◌∷◌, ◌++
 use Rattle.pools.specs.Calls.{event, request, update, write, draw, shuffle}
 use Rattle.reference.specs.Provenance.{PoolUse}
 use Rattle.history.specs.Strings.{Event, string_of}
-use Rattle.history.specs.Reader.{entry_at, data_at, number, history}
+use Rattle.history.specs.Reader.{entry, the_end, no_event, entry_at, data_at, number, history}
 use Rattle.quotas.specs.Entries.{without, Entry, taking}
 use Rattle.history.specs.Runs.{booked_event, booked_for, waiting_in, made, entered_at, uses_of, strings_at, string_in, worked_out}
 use Rattle.history.specs.RunStatements.{events_into}
-use Rattle.history.specs.declared.answer.Answer.TheVariants.{Found, End, NoEvent}
 
 -- 01's event and one of source 900: 07 00 02 A1 B2, 84 03 01 05
 abbrev pub two_events : List Event
@@ -28,8 +27,8 @@ StringsRow =
 abbrev pub PlacesRow : Type 0
 PlacesRow =
     map (entry_at two_string) (0 ∷ 1 ∷ 2 ∷ 3 ∷ 4 ∷ 5 ∷ 6 ∷ 7 ∷ 8 ∷ 9 ∷ 10 ∷ [])
-    ≡ Found 7 3 5 ∷ NoEvent 1 ∷ NoEvent 2 ∷ NoEvent 3 ∷ NoEvent 4
-    ∷ Found 900 8 9 ∷ NoEvent 6 ∷ NoEvent 7 ∷ NoEvent 8 ∷ End ∷ NoEvent 10 ∷ []
+    ≡ entry 7 3 5 ∷ no_event 1 ∷ no_event 2 ∷ no_event 3 ∷ no_event 4
+    ∷ entry 900 8 9 ∷ no_event 6 ∷ no_event 7 ∷ no_event 8 ∷ the_end ∷ no_event 10 ∷ []
 
 -- their data, and none elsewhere
 abbrev pub DataRow : Type 0
@@ -47,7 +46,7 @@ DataSizesRow =
 
 -- an event starts at any place whose bytes are those of one: also inside another event's data
 abbrev pub InsideRow : Type 0
-InsideRow = map (entry_at (7 ∷ 0 ∷ 4 ∷ 1 ∷ 2 ∷ 1 ∷ 9 ∷ [])) (0 ∷ 3 ∷ 7 ∷ []) ≡ Found 7 3 7 ∷ Found 513 6 7 ∷ End ∷ []
+InsideRow = map (entry_at (7 ∷ 0 ∷ 4 ∷ 1 ∷ 2 ∷ 1 ∷ 9 ∷ [])) (0 ∷ 3 ∷ 7 ∷ []) ≡ entry 7 3 7 ∷ entry 513 6 7 ∷ the_end ∷ []
 
 -- the empty string; no byte, 1 byte, 32, 33 and 255 bytes of data; 32 with the last one missing
 abbrev pub SizesRow : Type 0
@@ -56,27 +55,27 @@ SizesRow =
     (([]) ∷ (7 ∷ 0 ∷ 0 ∷ []) ∷ (7 ∷ 0 ∷ 0 ∷ 9 ∷ []) ∷ (7 ∷ 0 ∷ 1 ∷ 9 ∷ [])
     ∷ (7 ∷ 0 ∷ 32 ∷ replicate 32 9) ∷ (7 ∷ 0 ∷ 33 ∷ replicate 33 9) ∷ (7 ∷ 0 ∷ 255 ∷ replicate 255 9)
     ∷ (7 ∷ 0 ∷ 32 ∷ replicate 31 9) ∷ [])
-    ≡ End ∷ NoEvent 0 ∷ NoEvent 0 ∷ Found 7 3 4 ∷ Found 7 3 35 ∷ NoEvent 0 ∷ NoEvent 0 ∷ NoEvent 0 ∷ []
+    ≡ the_end ∷ no_event 0 ∷ no_event 0 ∷ entry 7 3 4 ∷ entry 7 3 35 ∷ no_event 0 ∷ no_event 0 ∷ no_event 0 ∷ []
 
 -- an event with its last bytes cut off is none; a byte more belongs to what comes next
 abbrev pub CutsRow : Type 0
 CutsRow =
     map (λ n. entry_at (take n two_string) 0) (1 ∷ 2 ∷ 3 ∷ 4 ∷ 5 ∷ 6 ∷ [])
-    ≡ NoEvent 0 ∷ NoEvent 0 ∷ NoEvent 0 ∷ NoEvent 0 ∷ Found 7 3 5 ∷ Found 7 3 5 ∷ []
+    ≡ no_event 0 ∷ no_event 0 ∷ no_event 0 ∷ no_event 0 ∷ entry 7 3 5 ∷ entry 7 3 5 ∷ []
 
 -- sources 0, 255, 256 and 65,535
 abbrev pub SourcesRow : Type 0
 SourcesRow =
     map (λ string. entry_at string 0)
     ((0 ∷ 0 ∷ 1 ∷ 9 ∷ []) ∷ (255 ∷ 0 ∷ 1 ∷ 9 ∷ []) ∷ (0 ∷ 1 ∷ 1 ∷ 9 ∷ []) ∷ (255 ∷ 255 ∷ 1 ∷ 9 ∷ []) ∷ [])
-    ≡ Found 0 3 4 ∷ Found 255 3 4 ∷ Found 256 3 4 ∷ Found 65535 3 4 ∷ []
+    ≡ entry 0 3 4 ∷ entry 255 3 4 ∷ entry 256 3 4 ∷ entry 65535 3 4 ∷ []
 
 -- past the end, up to the last place that there is: 44
 abbrev pub PastRow : Type 0
-PastRow = map (entry_at two_string) (11 ∷ 2 ^ 63 ∷ (2 ^ 64 - 1) ∷ []) ≡ NoEvent 11 ∷ NoEvent (2 ^ 63) ∷ NoEvent (2 ^ 64 - 1) ∷ []
+PastRow = map (entry_at two_string) (11 ∷ 2 ^ 63 ∷ (2 ^ 64 - 1) ∷ []) ≡ no_event 11 ∷ no_event (2 ^ 63) ∷ no_event (2 ^ 64 - 1) ∷ []
 
 abbrev pub NumbersRow : Type 0
-NumbersRow = map number (Found 7 3 5 ∷ End ∷ NoEvent 9 ∷ []) ≡ 0 ∷ 0 ∷ 44 ∷ []
+NumbersRow = map number (entry 7 3 5 ∷ the_end ∷ no_event 9 ∷ []) ≡ 0 ∷ 0 ∷ 44 ∷ []
 
 -- both events, in their order; and nothing of the empty string
 abbrev pub HistoryRow : Type 0

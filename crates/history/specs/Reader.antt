@@ -1,10 +1,13 @@
 -- The reader (02 (xiii)): what stands at a place of a string, counted from 0, and a string read on from there.
 -- Assumes nothing.
 use Rattle.std.specs.Prelude.{Bool, cond, ◌&&◌, List, [], ◌∷◌, ℕ, zero, suc, ◌+◌, ◌-◌, ◌*◌, eqb, ltb, leb, length, get_or, take, drop}
+use Rattle.std.specs.Prelude.{◌<◌, Option, Some, None, Result, Ok, Err}
+use Rattle.std.proofs.Common.{lit<}
+use Rattle.laws.specs.Refusals.{number_of}
 use Rattle.pools.specs.Events.{max_data, header_length, gain}
 use Rattle.history.specs.Strings.{Event}
-use Rattle.history.specs.declared.answer.Answer.{Answer}
-use Rattle.history.specs.declared.answer.Answer.TheVariants.{Found, End, NoEvent}
+use Rattle.history.specs.declared.answer.Entry.{Entry}
+use Rattle.history.specs.declared.answer.NoEvent.{NoEvent}
 
 -- ---- what stands at a place
 
@@ -29,19 +32,35 @@ size_at string place = cond (whole_at string place) (length_at string place) 0
 unfoldable pub data_at : List ℕ → ℕ → List ℕ
 data_at string place = take (size_at string place) (drop (place + header_length) string)
 
--- the end of the string; an event: its source, where its data start, and the next place; or no event, with the place
+-- an event: its source, where its data start, and the next place; the end of the string; or no event, with the place
+abbrev pub Answer : Type 0
+Answer = Result (Option Entry) NoEvent
+
+abbrev pub entry : ℕ → ℕ → ℕ → Answer
+entry source from next = Ok (Some (record { source = source; from = from; next = next }))
+
+abbrev pub the_end : Answer
+the_end = Ok None
+
+abbrev pub no_event : ℕ → Answer
+no_event place = Err (record { place = place })
+
 unfoldable pub entry_at : List ℕ → ℕ → Answer
 entry_at string place =
-    cond (eqb place (length string)) End
+    cond (eqb place (length string)) the_end
     (cond (whole_at string place)
-    (Found (source_at string place) (place + header_length) (place + gain (length_at string place)))
-    (NoEvent place))
+    (entry (source_at string place) (place + header_length) (place + gain (length_at string place)))
+    (no_event place))
 
--- 02's number of an answer
-unfoldable pub number : Answer → ℕ
-number (Found source from next) = 0
-number End = 0
-number (NoEvent place) = 44
+-- 02's number of no event, which is not 0; and that of an answer
+abbrev pub code : NoEvent → ℕ
+code refusal = 44
+
+pub code-above-0 : (refusal : NoEvent) → 0 < code refusal
+code-above-0 refusal = lit< tt
+
+abbrev pub number : Answer → ℕ
+number = number_of code
 
 -- the event that was found in a string: its source, and the bytes from `from` up to `next`
 unfoldable pub found_event : List ℕ → ℕ → ℕ → ℕ → Event
@@ -57,10 +76,10 @@ pub record History : Type 0 where
 
 -- what stands at a place, and what is read from the next one on
 unfoldable pub then_read : List ℕ → Answer → (ℕ → History) → History
-then_read string (Found source from next) rest =
-    record { events = found_event string source from next ∷ (rest next).events; number = (rest next).number; place = (rest next).place }
-then_read string End rest = record { events = []; number = 0; place = length string }
-then_read string (NoEvent place) rest = record { events = []; number = 44; place = place }
+then_read string (Ok (Some e)) rest =
+    record { events = found_event string e.source e.from e.next ∷ (rest e.next).events; number = (rest e.next).number; place = (rest e.next).place }
+then_read string (Ok None) rest = record { events = []; number = 0; place = length string }
+then_read string (Err refusal) rest = record { events = []; number = 44; place = refusal.place }
 
 -- at most n steps, and 44 where they are not enough
 unfoldable pub history_from : ℕ → List ℕ → ℕ → History

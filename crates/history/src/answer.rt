@@ -1,34 +1,28 @@
 // What stands at a place of a string, or why nothing does.
-ghost use Rattle.std.specs.Prelude.{◌≡◌};
-ghost use Rattle.history.specs.Reader.{number};
+ghost use Rattle.history.specs.Reader.{code, code-above-0};
 
-// An event, whose data are the bytes from `from` up to `next`, the next place; the end of the string; or 44, with the place.
+use laws::Numbered;
+
+// An event, whose data are the bytes from `from` up to `next`, the next place.
 #[derive(Clone, Copy)]
-pub enum Answer {
-    Found {
-        source: u32,
-        from: usize,
-        next: usize,
-    },
-    End,
-    NoEvent {
-        place: usize,
-    },
+pub struct Entry {
+    pub source: u32,
+    pub from: usize,
+    pub next: usize,
 }
 
-impl Answer {
-    // 44 where no whole event starts at the place or it is past the end, else 0.
-    pub fn number(self) -> u32
-        ensures { result ≡ number self }
-    {
-        match self {
-            Answer::Found {
-                source: _,
-                from: _,
-                next: _,
-            } => 0,
-            Answer::End => 0,
-            Answer::NoEvent { place: _ } => 44,
-        }
+// 44, with the place: no whole event starts there, or it is past the end.
+#[derive(Clone, Copy)]
+pub struct NoEvent {
+    pub place: usize,
+}
+
+impl Numbered for NoEvent {
+    ghost code = { code };
+
+    ghost above_0 = { code-above-0 };
+
+    fn number(self) -> u32 {
+        44
     }
 }

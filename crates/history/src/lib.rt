@@ -4,78 +4,62 @@
 
 mod answer;
 
-ghost use Rattle.std.specs.Prelude.{◌≡◌, ◌+◌, ◌≤◌, length};
-ghost use Rattle.history.specs.Reader.{source_at, size_at, data_at, entry_at};
+ghost use Rattle.std.specs.Prelude.{◌≡◌, ◌+◌, ◌≤◌, cond, length, IfSome};
+ghost use Rattle.history.specs.Reader.{source_at, length_at, whole_at, data_at, entry_at};
 
-pub use answer::Answer;
-
-fn wide(x: u8) -> usize
-    ensures { result ≡ x }
-{
-    x as usize
-}
-
-fn wide32(x: u8) -> u32
-    ensures { result ≡ x }
-{
-    x as u32
-}
+pub use answer::{Entry, NoEvent};
 
 // The source in two bytes, least significant first.
+#[tactic(auto, unfolding(crate::specs::Reader::source_at))]
 fn source_at(string: &[u8], place: usize) -> u32
     requires { place + 2 ≤ length string.now }
     ensures { result ≡ source_at string.now place }
 {
-    wide32(string[place]) + 256 * wide32(string[place + 1])
+    u32::from(u16::from_le_bytes([string[place], string[place + 1]]))
 }
 
-// How many bytes of data the whole event at a place has; 0 where none starts there. Before its data, 1 to 32 bytes, stand 3 others.
-fn size_at(string: &[u8], place: usize) -> usize
-    ensures { result ≡ size_at string.now place }
+// How many bytes of data the whole event at a place has, if one starts there. Before its data, 1 to 32 bytes, stand 3 others.
+#[tactic(auto, using(crate::proofs::Sizes::whole_is), unfolding(crate::specs::Reader::length_at))]
+fn size_at(string: &[u8], place: usize) -> Option<usize>
+    ensures size { result ≡ cond (whole_at string.now place) (Some (length_at string.now place)) None }
+    ensures room { IfSome result (λ n. place + 3 + n ≤ length string.now) }
 {
     let total = string.len();
-    if total < 4 {
-        return 0;
+    if total < 4 || total - 4 < place {
+        return None;
     }
-    if total - 4 < place {
-        return 0;
+    let size = usize::from(string[place + 2]);
+    if size == 0 || 32 < size || total - 3 - place < size {
+        return None;
     }
-    let size = wide(string[place + 2]);
-    if 32 < size {
-        return 0;
-    }
-    if total - 3 - place < size {
-        return 0;
-    }
-    size
+    Some(size)
 }
 
-// What stands at a place.
-pub fn entry_at(string: &[u8], place: usize) -> Answer
+// What stands at a place; at the end of the string nothing does.
+#[tactic(auto, using(crate::proofs::Sizes::entry_is))]
+pub fn entry_at(string: &[u8], place: usize) -> Result<Option<Entry>, NoEvent>
     ensures { result ≡ entry_at string.now place }
 {
     if place == string.len() {
-        return Answer::End;
+        return Ok(None);
     }
-    let size = size_at(string, place);
-    if size == 0 {
-        return Answer::NoEvent { place };
-    }
-    Answer::Found {
+    let size = size_at(string, place).ok_or(NoEvent { place })?;
+    Ok(Some(Entry {
         source: source_at(string, place),
         from: place + 3,
         next: place + 3 + size,
-    }
+    }))
 }
 
 // The data of the event at a place, a part of the string; nothing where no whole event starts there.
+#[tactic(auto, using(crate::proofs::Sizes::data_is))]
 pub fn data_at(string: &[u8], place: usize) -> &[u8]
     ensures { result.now ≡ data_at string.now place }
 {
-    let size = size_at(string, place);
-    if size == 0 {
+    let Some(size) = size_at(string, place) else {
         return &string[..0];
-    }
+    };
+    // Kept: (a) `from` and `next` by name: the edits data_one_early, data_of_one_byte and data_with_header each change one of these lines.
     let from = place + 3;
     let next = from + size;
     &string[from..next]

@@ -1,21 +1,24 @@
 -- What an accepted event has passed beside the checks that it shares with the present scheduler.
 -- Assumes nothing.
 use mathlib.Core.Path.{◌≡◌, refl, sym, ap, ◌∙◌}
-use mathlib.Core.Bool.{Bool, true, false, ◌&&◌, and-true, and-false}
+use mathlib.Core.Bool.{Bool, true, false, not, ◌&&◌, ◌||◌}
+use mathlib.Core.Logic.{◌≢◌}
 use Prim.Native.Nat.{ℕ, ◌+◌, ◌≤◌}
 use native.Mathlib.Omega.{arith}
 use lib.Dec.{eqb, ltb}
-use borrow.Author.Tests.{eqb-false, ne_eqb}
+use borrow.Author.Tests.{eqb-false}
 use Rattle.laws.specs.Refusals.{refuse}
 use Rattle.laws.proofs.Refusals.{passed}
 use Rattle.generator.specs.Counter.{max_counter}
 use Rattle.generator.specs.Steps.{GeneratorState}
 use Rattle.generator.specs.Refusals as Generator
-use Rattle.pools.specs.State.{unseeded_counted}
 use Rattle.pools.specs.Refusals as Pools
 use Rattle.pools.specs.Events.{pool_count}
-use Rattle.pools.proofs.Chains.{then-then, both-passed}
+use Rattle.pools.proofs.Chains.{then-then, then-first, then-second, both-passed}
 use Rattle.pools.proofs.Acceptance.{not-spent}
+use Rattle.pools.specs.State.{unseeded_counted}
+use Rattle.pools.proofs.WellFormed.{no_key}
+use Rattle.keyed.specs.State.{timer_moved, malformed_fields}
 use Rattle.keyed.specs.Scheduler.{empties}
 use Rattle.keyed.specs.Refusals.{max_step, step_number, event_input, event_state, event_number}
 
@@ -54,24 +57,26 @@ module _ (c t : ℕ) (e : step_number c t ≡ 0) where
 -- ---- what the code tests
 
 -- a reseed takes 1
-pub spent-once : (w : GeneratorState) → Pools.spent w.count true 0 ≡ Generator.spent w 1
+pub spent_once : (w : GeneratorState) → Pools.spent w.count true 0 ≡ Generator.spent w 1
 unfolding Pools.spent Generator.spent
-spent-once w = ap (ltb max_counter) (omega arith)
+spent_once w = ap (ltb max_counter) (omega arith)
 
--- two chains: m is the first one's number, k what the code came to, d its test for a call that is done
-pub then-done : (m n k j : ℕ) (d : Bool) → k ≡ m → d ≡ eqb k 0 → d ≡ true → j ≡ n → j ≡ Pools.and_then m n
-unfolding Pools.and_then
-then-done m n k j d e f t g = g ∙ rw (← e, ← f, t)
+-- an event whose input and pool pass is answered by its step, another by these
+pub by_step :
+    (m : Bool) (size source n c t : ℕ) → Pools.event_number m size source 0 n ≡ 0 → event_number m size source n c t ≡ step_number c t
+by_step m size source n c t e = event-chains m size source n c t ∙ then-second _ (step_number c t) e
 
-pub then-refused : (m n k : ℕ) (d : Bool) → k ≡ m → d ≡ eqb k 0 → d ≡ false → k ≡ Pools.and_then m n
-unfolding Pools.and_then
-then-refused m n k d e f t = rw (← e, ← f, t)
+pub by_event :
+    (m : Bool) (size source n c t : ℕ) → Pools.event_number m size source 0 n ≢ 0 →
+    event_number m size source n c t ≡ Pools.event_number m size source 0 n
+by_event m size source n c t h = event-chains m size source n c t ∙ then-first _ (step_number c t) h
 
--- the clause on the requests
-pub counted_none : (c : ℕ) → unseeded_counted c 0 ≡ false
-unfolding unseeded_counted
-counted_none c = and-false (eqb c 0)
+-- the clauses on the fields, and no key
+pub fields_open :
+    (w : GeneratorState) (reseeded : Bool) (last count requests : ℕ) →
+    malformed_fields w reseeded last count requests
+    ≡ (Generator.malformed w || (reseeded || not (eqb last 0 && eqb count 0)) || (eqb w.count 0 && not (eqb requests 0)))
+unfolding malformed_fields timer_moved unseeded_counted
+fields_open w reseeded last count requests = refl
 
-pub counted-some : (c n : ℕ) → (n ≡ 0 → ⊥) → unseeded_counted c n ≡ eqb c 0
-unfolding unseeded_counted
-counted-some c n h = rw (ne_eqb n 0 h) (and-true (eqb c 0))
+pub ruleset fields = (fields_open, no_key)

@@ -10,14 +10,17 @@ use lib.Dec.{eqb, ltb}
 use lib.ListN.{length, set}
 use lib.Seq.{get_or-set_same, get_or-set_other}
 use borrow.Author.Tests.{eqb-true, eqb-false, le-ltb}
+use Rattle.std.specs.Int.{from_bool}
 use Rattle.laws.specs.Refusals.{refuse}
 use Rattle.laws.proofs.Cases.{by-test, neither}
 use Rattle.laws.proofs.Refusals.{passed}
 use Rattle.hash.specs.Hasher.{absorb}
 use Rattle.hash.specs.ShaD.{empty_pool, max_pool_length, pool_digest}
-use Rattle.hash.specs.Answers.{digest_within}
+use Rattle.std.proofs.Common.{Result, Ok}
+use Rattle.hash.specs.Answers.{within}
+use Rattle.hash.specs.declared.answer.TooLong.{TooLong}
 use Rattle.hash.specs.declared.hasher.Hasher.{Hasher}
-use Rattle.hash.proofs.Laws.{absorb-length, digest-within, length-pool-digest}
+use Rattle.hash.proofs.Laws.{absorb-length, within-limit as digest-within, length-pool-digest}
 use Rattle.generator.specs.Counter.{max_counter}
 use Rattle.generator.specs.Steps.{decode}
 use Rattle.generator.specs.Refusals as Generator
@@ -135,13 +138,16 @@ module _ (s : Keyed) (source : ℕ) (d : List ℕ) (ok : call_number s (event so
 
 -- ---- what the code leaves
 
--- a pool emptied into the key
-pub emptied-is : (s : Keyed) (i : ℕ) (digest : List ℕ) (g : Generator) (empty : Hasher)
-    → Emptiable s i
-    → digest ≡ digest_within max_pool_length (pool_at s i).length (pool_digest (pool_at s i))
-    → g ≡ reseeded s.generator digest
-    → empty ≡ empty_pool
-    → ◌≡◌ {A = Keyed}
+-- a pool emptied into the key: its digest comes
+pub digest-comes :
+    (s : Keyed) (i : ℕ) (r : Result (List ℕ) TooLong) → Emptiable s i →
+    r ≡ within max_pool_length (pool_at s i).length (pool_digest (pool_at s i)) → r ≡ Ok (pool_digest (pool_at s i))
+digest-comes s i r able e = e ∙ digest-within max_pool_length (pool_at s i).length (pool_digest (pool_at s i)) able.short
+
+pub emptied-is :
+    (s : Keyed) (i : ℕ) (digest : List ℕ) (g : Generator) (empty : Hasher) → Emptiable s i → digest ≡ pool_digest (pool_at s i) →
+    g ≡ reseeded s.generator digest → empty ≡ empty_pool →
+    ◌≡◌ {A = Keyed}
     (record {
       generator = g;
       pools = set s.pools i empty;
@@ -154,8 +160,7 @@ pub emptied-is : (s : Keyed) (i : ℕ) (digest : List ℕ) (g : Generator) (empt
     })
     (emptied_into s i)
 unfolding emptied_into
-emptied-is s i digest g empty able hashed made blank =
-    let is : digest ≡ pool_digest (pool_at s i) = hashed ∙ digest-within max_pool_length (pool_at s i).length (pool_digest (pool_at s i)) able.short in
+emptied-is s i digest g empty able is made blank =
     let short : length (pool_digest (pool_at s i)) ≤ 1024 = rw (length-pool-digest (pool_at s i)) (omega arith) in
     let done = reseeded-done s.generator (pool_digest (pool_at s i)) (small-seed (length (pool_digest (pool_at s i))) short) able.formed able.room in
     rw (made ∙ ap (reseeded s.generator) is ∙ done, blank)
@@ -222,16 +227,29 @@ module _ (s : Keyed) (source : ℕ) (d : List ℕ) (ok : call_number s (event so
     unfolding add_event emptied_by_step
     kept-is x f u = ap (λ (y : Keyed). at_step y (s.step + 1)) (f ∙ stored_is) ∙ (unfold stepped gained in rw u)
 
--- the number of an event, from the tests that the code made
-pub event-number : (s : Keyed) (source : ℕ) (d : List ℕ) (m : Bool) (i k : ℕ) → m ≡ malformed s → i ≡ picked s
-    → k ≡ event_number m (pool_at s i).length source (length d) (decode s.generator).count s.step → k ≡ call_number s (event source d)
-unfolding call_number counter_of
-event-number s source d m i k formed placed e = rw (← formed, ← placed) e
+-- the number of an event, from the pool that the step picks
+pub event-number :
+    (s : Keyed) (source : ℕ) (d : List ℕ) (i k : ℕ) → i ≡ picked s →
+    k ≡ event_number (malformed s) (pool_at s i).length source (length d) (counter_of s) s.step → k ≡ call_number s (event source d)
+unfolding call_number
+event-number s source d i k placed e = rw (← placed) e
 
 -- its effect
 pub event-effect :
-    (s : Keyed) (source : ℕ) (d : List ℕ) (n : ℕ) (x : Keyed) (u : Bool) → u ≡ empties s.step → n ≡ cond u 1 0
-    → x ≡ (add_event s (event_bytes source d)).next
-    → (n ≡ (call_effect s (event source d)).emptied) × (x ≡ (call_effect s (event source d)).next) × ([] ≡ (call_effect s (event source d)).buffer)
+    (s : Keyed) (source : ℕ) (d : List ℕ) (n : ℕ) (x : Keyed) →
+    (n ≡ (add_event s (event_bytes source d)).emptied) × (x ≡ (add_event s (event_bytes source d)).next) →
+    (n ≡ (call_effect s (event source d)).emptied) × (x ≡ (call_effect s (event source d)).next)
+    × ([] ≡ (call_effect s (event source d)).buffer)
 unfolding call_effect add_event
-event-effect s source d n x u e f g = (f ∙ ap (λ (t : Bool). cond t 1 0) e, g, refl)
+event-effect s source d n x h = (h.0, h.1, refl)
+
+-- how many pools its step empties
+pub emptied-count : (s : Keyed) (bytes : List ℕ) (u : Bool) → u ≡ empties s.step → from_bool u ≡ (add_event s bytes).emptied
+unfolding add_event
+emptied-count s bytes true e = ap (λ (t : Bool). cond t 1 0) e
+emptied-count s bytes false e = ap (λ (t : Bool). cond t 1 0) e
+
+-- emptying a pool is no step
+pub emptied-step : (s : Keyed) (i : ℕ) → (emptied_into s i).step ≡ s.step
+unfolding emptied_into
+emptied-step s i = refl

@@ -1,17 +1,49 @@
--- The loop that looks for the largest period: as far as it went, each period divides the step.
+-- The pool that a step empties, by the zeros below the lowest 1 of its number.
 -- Assumes nothing.
 use mathlib.Core.Path.{◌≡◌, refl, sym, ap, ◌∙◌}
 use mathlib.Core.Logic.{◌⊎◌, inl, inr, ⊎_elim}
 use mathlib.Core.Bool.{Bool, true, false}
-use mathlib.Core.List.{[], ◌∷◌}
-use Prim.Native.Nat.{ℕ, zero, suc, ◌+◌, ◌*◌, ◌/◌, ◌%◌, ◌^◌, ◌≤◌, ◌<◌}
-use native.Mathlib.Nat.{le_refl}
+use Prim.Native.Nat.{ℕ, zero, suc, ◌+◌, ◌-◌, ◌*◌, ◌/◌, ◌%◌, ◌^◌, ◌≤◌, ◌<◌, min}
+use native.Mathlib.Nat.{le_refl, pow-suc}
 use native.Mathlib.Omega.{arith}
-use lib.Dec.{eqb}
-use lib.Pow.{pow_mono}
-use Rattle.generator.specs.Counter.{little_endian}
-use Rattle.keyed.specs.Scheduler.{step_block, divides, greatest, output_pool}
-use Rattle.keyed.proofs.Periods.{greatest-is, period-pos, period-double, divides-after}
+use lib.Count.{count_trailing_zeros, under}
+use lib.Dec.{leb}
+use lib.Pow.{pow_pos}
+use borrow.Author.Tests.{eq-eqb, ne_eqb, leb-true, leb-false}
+use Rattle.std.proofs.Math.Arith.{mod-mul}
+use Rattle.laws.proofs.Cases.{by-test}
+use Rattle.keyed.specs.Scheduler.{divides, greatest, output_pool}
+use Rattle.keyed.proofs.Periods.{greatest-is, period-pow}
+
+-- the lowest digit, and those above it
+low-digit : (n j : ℕ) → n % 2 ^ suc j ≡ (n / 2 % 2 ^ j) * 2 + n % 2
+low-digit n j = ap (λ (k : ℕ). n % k) (pow-suc 2 j) ∙ mod-mul n {m = 2 ^ j} {c = 2} (pow_pos j) (omega arith)
+
+-- 2^j divides a number with j zeros at its end
+zeros-divide : (k n j : ℕ) → j ≤ count_trailing_zeros k n → n % 2 ^ j ≡ 0
+unfolding count_trailing_zeros
+zeros-divide k n zero h = omega arith
+zeros-divide zero n (suc j) h = absurd (omega arith)
+zeros-divide (suc k) n (suc j) h = go (n % 2) refl h (zeros-divide k (n / 2) j)
+  where
+    go :
+        (d : ℕ) → n % 2 ≡ d → suc j ≤ under d (count_trailing_zeros k (n / 2)) →
+        (j ≤ count_trailing_zeros k (n / 2) → n / 2 % 2 ^ j ≡ 0) → n % 2 ^ suc j ≡ 0
+    go zero e l f = omega (arith, low-digit n j, f (omega arith))
+    go (suc d) e l f = absurd (omega arith)
+
+-- and no number with fewer, among the k digits that are looked at
+ones-end : (k n j : ℕ) → count_trailing_zeros k n < j → j ≤ k → n % 2 ^ j ≡ 0 → ⊥
+unfolding count_trailing_zeros
+ones-end k n zero h l e = omega arith
+ones-end zero n (suc j) h l e = omega arith
+ones-end (suc k) n (suc j) h l e = go (n % 2) refl h (ones-end k (n / 2) j)
+  where
+    go :
+        (d : ℕ) → n % 2 ≡ d → under d (count_trailing_zeros k (n / 2)) < suc j →
+        (count_trailing_zeros k (n / 2) < j → j ≤ k → n / 2 % 2 ^ j ≡ 0 → ⊥) → ⊥
+    go zero z m f = f (omega arith) (omega arith) (omega (arith, low-digit n j))
+    go (suc d) z m f = omega (arith, low-digit n j)
 
 greatest-none : (f : ℕ → Bool) (n : ℕ) → ((j : ℕ) → 0 < j → j ≤ n → f j ≡ false) → greatest f n ≡ 0
 unfolding greatest
@@ -26,46 +58,23 @@ greatest-at f n i h p none =
     (λ (q : f i ≡ true). greatest-is f n i h q none)
     p
 
--- i periods were passed, and p is the next one
-abbrev pub Passed : ℕ → ℕ → ℕ → Type 0
-Passed t i p = (i ≤ 31) × (p ≡ 32 * 2 ^ (i + 1)) × ((i ≡ 0) ⊎ (divides t i ≡ true))
+-- the periods that divide a step are those up to its zeros
+module _ (t i : ℕ) where
+  period-divides : i + 5 ≤ count_trailing_zeros 64 t → divides t i ≡ true
+  unfolding divides
+  period-divides h = eq-eqb _ 0 (ap (λ (p : ℕ). t % p) (period-pow i) ∙ zeros-divide 64 t (i + 5) h)
 
-pub passed_none : (t : ℕ) → Passed t 0 64
-passed_none t = (omega arith, refl, inl refl)
+  period-ends : count_trailing_zeros 64 t < i + 5 → i ≤ 31 → divides t i ≡ false
+  unfolding divides
+  period-ends h l =
+      ne_eqb _ 0 (λ e. ones-end 64 t (i + 5) h (omega arith) (ap (λ (p : ℕ). t % p) (sym (period-pow i)) ∙ e))
 
-pub passed-some : (t i p : ℕ) → Passed t i p → 0 < p
-passed-some t i p h = omega (arith, h.1, period-pos (i + 1))
-
-pub passed-room : (t i p : ℕ) → Passed t i p → i < 31 → 2 * p < 2 ^ 64
-passed-room t i p h k =
-    let top : i + 1 ≤ 31 = omega arith in
-    omega (arith, h.1, pow_mono top)
-
-pub passed-more : (t i p : ℕ) → Passed t i p → i < 31 → eqb (t % p) 0 ≡ true → Passed t (i + 1) (2 * p)
-passed-more t i p h k e = (omega arith, omega (arith, h.1, period-double (i + 1)), inr here)
-  where
-    here : divides t (i + 1) ≡ true
-    here = unfold divides in sym (ap (λ (q : ℕ). eqb (t % q) 0) h.1) ∙ e
-
-pub passed-end : (t i p : ℕ) → Passed t i p → eqb (t % p) 0 ≡ false → i ≡ output_pool t
+-- so the pool is by their number
+pub output_by_zeros : (t : ℕ) → min (count_trailing_zeros 64 t - 5) 31 ≡ output_pool t
 unfolding output_pool
-passed-end t i p h e =
-    sym (greatest-at (divides t) 31 i h.0 h.2 (λ j a b. divides-after t (i + 1) j next (omega arith)))
-  where
-    next : divides t (i + 1) ≡ false
-    next = unfold divides in sym (ap (λ (q : ℕ). eqb (t % q) 0) h.1) ∙ e
-
-pub passed-all : (t i p : ℕ) → Passed t i p → 31 ≤ i → i ≡ output_pool t
-unfolding output_pool
-passed-all t i p h k = sym (greatest-at (divides t) 31 i h.0 h.2 (λ j a b. absurd (omega arith)))
-
--- block t, byte by byte
-pub step-bytes : (t : ℕ) → t < 2 ^ 64
-    → (t % 256 ∷ t / 256 % 256 ∷ t / 256 / 256 % 256 ∷ t / 256 / 256 / 256 % 256 ∷ t / 256 / 256 / 256 / 256 % 256
-    ∷ t / 256 / 256 / 256 / 256 / 256 % 256 ∷ t / 256 / 256 / 256 / 256 / 256 / 256 % 256 ∷ t / 256 / 256 / 256 / 256 / 256 / 256 / 256 % 256
-    ∷ 0 ∷ 0 ∷ 0 ∷ 0 ∷ 0 ∷ 0 ∷ 0 ∷ 0 ∷ [])
-    ≡ step_block t
-unfolding step_block little_endian
-step-bytes t h =
-    let z : t / 256 / 256 / 256 / 256 / 256 / 256 / 256 / 256 ≡ 0 = omega arith in
-    rw z
+output_by_zeros t =
+    sym (greatest-at (divides t) 31 (min (count_trailing_zeros 64 t - 5) 31) (omega arith)
+    (by-test (leb 6 (count_trailing_zeros 64 t)) _
+    (λ e. inr (period-divides t _ (omega (arith, leb-true 6 _ e))))
+    (λ e. inl (omega (arith, leb-false 6 _ e))))
+    (λ j a b. period-ends t j (omega arith) b))

@@ -9,7 +9,7 @@ use lib.Dec.{eqb, ltb}
 use lib.Pow.{pow_pos, pow-add, mod-mod-pow}
 use borrow.Author.Tests.{eqb-true, eqb-false, eq-eqb, ltb-true}
 use Rattle.laws.proofs.Cases.{by-test, both}
-use Rattle.keyed.specs.Scheduler.{empties, divides, greatest, output_pool}
+use Rattle.keyed.specs.Scheduler.{empties, divides, greatest}
 
 -- ---- the largest that passes a test
 
@@ -101,8 +101,3 @@ not-divides-rest t i e = eqb-false (t % (32 * 2 ^ i)) 0 e
 pub empties-some : (t : ℕ) → empties t ≡ true → 0 < t
 unfolding empties
 empties-some t e = ltb-true 0 t (both (ltb 0 t) (eqb (t % 32) 0) e).0
-
--- the pool that a step empties is one of the 32
-pub output-small : (t i : ℕ) → i ≡ output_pool t → i ≤ 31
-unfolding output_pool
-output-small t i e = rw e (greatest-le (divides t) 31)

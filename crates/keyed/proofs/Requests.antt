@@ -1,7 +1,7 @@
 -- An accepted request can be served, and what the generator then leaves is the call's effect.
 -- Assumes nothing.
-use mathlib.Core.Path.{◌≡◌, refl, sym, subst, ◌∙◌}
-use mathlib.Core.Bool.{Bool, false, and-true}
+use mathlib.Core.Path.{◌≡◌, refl, sym, ap, subst, subst₂, ◌∙◌}
+use mathlib.Core.Bool.{false, and-true}
 use mathlib.Core.List.{List}
 use Prim.Native.Nat.{ℕ, ◌+◌, ◌≤◌}
 use native.Mathlib.Omega.{arith}
@@ -20,7 +20,8 @@ use Rattle.pools.specs.Refusals.{seed_size, unseeded, request_number, write_numb
 use Rattle.pools.specs.Effects.{Effect}
 use Rattle.pools.proofs.Acceptance.{OutputPassed, not-spent, request-passed, request-short, write-size, write-passed, update-size, update-passed, update-room}
 use Rattle.pools.proofs.Serving.{Ready, ready-reseeded, served-next, served-buffer}
-use Rattle.keyed.specs.State.{counter_of, malformed}
+use Rattle.pools.specs.declared.refusals.Standing.{Standing}
+use Rattle.keyed.specs.State.{counter_of, malformed, standing}
 use Rattle.keyed.specs.Effects.{served, random_data_from, random_data, reseed_with_seed, update_seed, write_seed}
 use Rattle.keyed.specs.Calls.{request, update, write, call_number, call_effect}
 use Rattle.keyed.specs.Promises.{Servable}
@@ -32,10 +33,24 @@ use Rattle.keyed.proofs.Events.{generator-formed}
 servable : (g : Generator) (n : ℕ) → n ≤ Generator.max_request → Ready g n → Servable g n
 servable g n short able = record { formed = able.formed; keyed = able.keyed; room = able.room; short = short }
 
+-- the state with another generator
+abbrev pub with_generator : Keyed → Generator → Keyed
+with_generator s g =
+    record {
+      generator = g;
+      pools = s.pools;
+      last_reseed = s.last_reseed;
+      reseed_count = s.reseed_count;
+      reseeded = s.reseeded;
+      key_requests = s.key_requests;
+      scheduler_key = s.scheduler_key;
+      step = s.step;
+    }
+
 -- what it then leaves: m is the generator after the request, ys the lent bytes, count the requests on the key
 pub serve_is :
-    (s : Keyed) (g : Generator) (out : List ℕ) → Servable g (length out) → (m : Generator) (ys : List ℕ) (count : ℕ) →
-    m ≡ requested g out → ys ≡ request_buffer g out → count ≡ count_request s.key_requests →
+    (s : Keyed) (out : List ℕ) → Servable s.generator (length out) → (m : Generator) (ys : List ℕ) (count : ℕ) →
+    m ≡ requested s.generator out → ys ≡ request_buffer s.generator out → count ≡ count_request s.key_requests →
     (◌≡◌ {A = Keyed}
     (record {
       generator = m;
@@ -47,12 +62,12 @@ pub serve_is :
       scheduler_key = s.scheduler_key;
       step = s.step;
     })
-    (random_data_from s (decode g) (length out)).next)
-    × (ys ≡ (random_data_from s (decode g) (length out)).buffer)
-unfolding random_data_from served
-serve_is s g out able m ys count made filled counted =
-    let r : Ready g (length out) = record { formed = able.formed; keyed = able.keyed; room = able.room } in
-    (rw (made ∙ served-next g out able.short r, counted), filled ∙ served-buffer g out able.short r)
+    (random_data s (length out)).next)
+    × (ys ≡ (random_data s (length out)).buffer)
+unfolding random_data random_data_from served
+serve_is s out able m ys count made filled counted =
+    let r : Ready s.generator (length out) = record { formed = able.formed; keyed = able.keyed; room = able.room } in
+    (rw (made ∙ served-next s.generator out able.short r, counted), filled ∙ served-buffer s.generator out able.short r)
 
 -- ---- accepted calls: no pool reseed is due
 
@@ -88,10 +103,11 @@ seed-room c h = rw seed-blocks (omega arith)
 abbrev Leaves : Effect Keyed → Keyed → List ℕ → Type 0
 Leaves e next ys = (0 ≡ e.emptied) × (next ≡ e.next) × (ys ≡ e.buffer)
 
-leaves-from : (s : Keyed) (g : Generator) (n : ℕ) (next : Keyed) (ys : List ℕ)
-    → (next ≡ (random_data_from s (decode g) n).next) × (ys ≡ (random_data_from s (decode g) n).buffer) → Leaves (random_data_from s (decode g) n) next ys
-unfolding random_data_from
-leaves-from s g n next ys h = (refl, h.0, h.1)
+leaves-from :
+    (s : Keyed) (n : ℕ) (next : Keyed) (ys : List ℕ) → (next ≡ (random_data s n).next) × (ys ≡ (random_data s n).buffer) →
+    Leaves (random_data s n) next ys
+unfolding random_data random_data_from
+leaves-from s n next ys h = (refl, h.0, h.1)
 
 -- ---- a request
 
@@ -102,11 +118,11 @@ module _ (s : Keyed) (out : List ℕ) (ok : call_number s (request out) ≡ 0) w
       servable s.generator (length out) (request-short (malformed s) (counter_of s) false (length out) ok)
       (ready s (length out) (request-passed (malformed s) (counter_of s) false (length out) ok))
 
-pub request-effect : (s : Keyed) (out : List ℕ) (next : Keyed) (ys : List ℕ)
-    → (next ≡ (random_data_from s (decode s.generator) (length out)).next) × (ys ≡ (random_data_from s (decode s.generator) (length out)).buffer)
-    → Leaves (call_effect s (request out)) next ys
-unfolding call_effect random_data
-request-effect s out next ys h = leaves-from s s.generator (length out) next ys h
+pub request-effect :
+    (s : Keyed) (out : List ℕ) (next : Keyed) (ys : List ℕ) →
+    (next ≡ (random_data s (length out)).next) × (ys ≡ (random_data s (length out)).buffer) → Leaves (call_effect s (request out)) next ys
+unfolding call_effect
+request-effect s out next ys h = leaves-from s (length out) next ys h
 
 -- ---- a seed write
 
@@ -120,12 +136,12 @@ module _ (s : Keyed) (seed : List ℕ) (ok : call_number s (write seed) ≡ 0) w
   write-servable =
       rw written-size (servable s.generator seed_size seed-short (ready s seed_size (write-passed (malformed s) (counter_of s) false seed ok)))
 
-  pub write-effect : (next : Keyed) (ys : List ℕ)
-      → (next ≡ (random_data_from s (decode s.generator) (length seed)).next) × (ys ≡ (random_data_from s (decode s.generator) (length seed)).buffer)
-      → Leaves (call_effect s (write seed)) next ys
-  unfolding call_effect write_seed random_data
+  pub write-effect :
+      (next : Keyed) (ys : List ℕ) → (next ≡ (random_data s (length seed)).next) × (ys ≡ (random_data s (length seed)).buffer) →
+      Leaves (call_effect s (write seed)) next ys
+  unfolding call_effect write_seed
   write-effect next ys h =
-      subst (λ (n : ℕ). Leaves (random_data_from s (decode s.generator) n) next ys) written-size (leaves-from s s.generator (length seed) next ys h)
+      subst (λ (n : ℕ). Leaves (random_data s n) next ys) written-size (leaves-from s (length seed) next ys h)
 
 -- ---- a seed update: the seed reseeded the generator to k
 
@@ -159,26 +175,32 @@ module _ (s : Keyed) (seed : List ℕ) (k : Generator) (mixed : k ≡ reseeded s
       (servable (encode (reseed (decode s.generator) seed)) seed_size seed-short
       (ready-reseeded s.generator seed seed_size (seed-room (decode s.generator).count room)))
 
-  pub update-effect : (next : Keyed) (ys : List ℕ)
-      → (next ≡ (random_data_from s (decode k) (length seed)).next) × (ys ≡ (random_data_from s (decode k) (length seed)).buffer)
-      → Leaves (call_effect s (update seed)) next ys
-  unfolding call_effect
+  -- the state that the request then finds
+  mixed-state : with_generator s k ≡ reseed_with_seed s seed
+  unfolding reseed_with_seed
+  mixed-state = ap (with_generator s) mixed-is
+
+  pub update-effect :
+      (next : Keyed) (ys : List ℕ) →
+      (next ≡ (random_data (with_generator s k) (length seed)).next) × (ys ≡ (random_data (with_generator s k) (length seed)).buffer) →
+      Leaves (call_effect s (update seed)) next ys
+  unfolding call_effect update_seed
   update-effect next ys h =
-      subst (λ (e : Effect Keyed). Leaves e next ys) (sym (update-is s seed))
-      (subst (λ (g : Generator). Leaves (random_data_from s (decode g) seed_size) next ys) mixed-is
-      (subst (λ (n : ℕ). Leaves (random_data_from s (decode k) n) next ys) size (leaves-from s k (length seed) next ys h)))
+      subst₂ (λ (x : Keyed) (n : ℕ). Leaves (random_data x n) next ys) mixed-state size
+      (leaves-from (with_generator s k) (length seed) next ys h)
 
--- ---- the number of each call, from the tests that the code made
+-- ---- the number of each call, from how the state stands
 
-module _ (s : Keyed) (m : Bool) (k : ℕ) (formed : m ≡ malformed s) where
-  pub request-number : (out : List ℕ) → k ≡ request_number m (decode s.generator).count false (length out) → k ≡ call_number s (request out)
-  unfolding call_number counter_of
-  request-number out e = rw (← formed) e
+module _ (s : Keyed) (r : Standing) (k : ℕ) (stands : r ≡ standing s) where
+  pub request-number :
+      (out : List ℕ) → k ≡ request_number r.malformed (decode r.generator).count r.due (length out) → k ≡ call_number s (request out)
+  unfolding call_number counter_of standing
+  request-number out e = rw stands at e
 
-  pub write-number : (seed : List ℕ) → k ≡ write_number m (decode s.generator).count false seed → k ≡ call_number s (write seed)
-  unfolding call_number counter_of
-  write-number seed e = rw (← formed) e
+  pub write-number : (seed : List ℕ) → k ≡ write_number r.malformed (decode r.generator).count r.due seed → k ≡ call_number s (write seed)
+  unfolding call_number counter_of standing
+  write-number seed e = rw stands at e
 
-  pub update-number : (seed : List ℕ) → k ≡ update_number m (decode s.generator).count false seed → k ≡ call_number s (update seed)
-  unfolding call_number counter_of
-  update-number seed e = rw (← formed) e
+  pub update-number : (seed : List ℕ) → k ≡ update_number r.malformed (decode r.generator).count r.due seed → k ≡ call_number s (update seed)
+  unfolding call_number counter_of standing
+  update-number seed e = rw stands at e

@@ -10,6 +10,7 @@ use Rattle.pools.specs.Events.{pool_count}
 use Rattle.pools.specs.Pool.{malformed_pool}
 use Rattle.pools.specs.State.{any_pool, unseeded_counted}
 use Rattle.pools.specs.Collected.{nth}
+use Rattle.pools.specs.declared.refusals.Standing.{Standing}
 use Rattle.keyed.specs.Scheduler.{input_pool}
 use Rattle.keyed.specs.declared.Keyed.{Keyed}
 
@@ -53,3 +54,7 @@ unfoldable pub malformed : Keyed → Bool
 malformed s =
     any_pool malformed_pool s.pools
     || malformed_fields (decode s.generator) s.reseeded s.last_reseed s.reseed_count s.key_requests
+
+-- how the state stands when a call finds it: no pool reseed is ever due
+unfoldable pub standing : Keyed → Standing
+standing s = record { malformed = malformed s; generator = s.generator; due = false }

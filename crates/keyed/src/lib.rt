@@ -1,23 +1,21 @@
 // Fortuna with the pools chosen by key: the scheduler of source document 000, figure 6.
 #![tactic(auto)]
 
-mod refusals;
 mod scheduler;
 
-ghost use Rattle.std.specs.Prelude.{◌≡◌, cond, length};
+ghost use Rattle.std.specs.Prelude.{◌≡◌, length};
+ghost use Rattle.generator.specs.Steps.{decode};
 ghost use Rattle.pools.specs.Events.{event_bytes};
-ghost use Rattle.keyed.specs.Scheduler.{empties};
-ghost use Rattle.keyed.specs.State.{fresh, picked, malformed};
-ghost use Rattle.keyed.specs.Effects.{emptied_into, add_event};
+ghost use Rattle.pools.specs.Promises.{number, Gives, GivesBytes};
+ghost use Rattle.keyed.specs.State.{fresh, picked, counter_of, malformed_fields, malformed, standing};
+ghost use Rattle.keyed.specs.Refusals.{step_number, event_number};
+ghost use Rattle.keyed.specs.Effects.{emptied_into, add_event, random_data};
 ghost use Rattle.keyed.specs.Calls.{event, request, update, write, call_number, step};
-ghost use Rattle.keyed.specs.Promises.{Emptiable, Servable, ServedFrom, Gives, GivesBytes};
+ghost use Rattle.keyed.specs.Promises.{Emptiable, Servable};
 
 use generator::Generator;
 use hash::Hasher;
-use pools::{
-    Answer, any_malformed, counted, gained_pool, request_answer, update_answer, write_answer,
-};
-use refusals::{fields_malformed, keyed_event_answer};
+use pools::{Outcome, Refusal, Standing, any_malformed, counted, event_answer, gained_pool};
 pub use scheduler::{emptied_at, input_pool};
 use scheduler::{empties, output_pool};
 
@@ -37,184 +35,172 @@ pub struct Keyed {
     pub step: u64,
 }
 
-// The answer, the pools emptied, and the state that follows.
-#[derive(Clone, Copy)]
-pub struct Outcome {
-    pub answer: Answer,
-    pub emptied: u32,
-    pub next: Keyed,
-}
-
-// How many pools a step empties.
-fn count_of(reseeds: bool) -> u32
-    ensures { result ≡ cond reseeds 1 0 }
-{
-    if reseeds { 1 } else { 0 }
-}
-
 impl Keyed {
     // The fresh start under a scheduler key.
+    #[tactic(auto, unfolding(crate::specs::State::fresh, pools::specs::Events::pool_count))]
     pub fn new(scheduler_key: [u8; 32]) -> Keyed
         ensures { result ≡ fresh scheduler_key }
     {
-        let generator = Generator::new();
-        let empty = Hasher::empty_pool();
         Keyed {
-            generator: generator,
-            pools: [empty; 32],
+            generator: Generator::new(),
+            pools: [Hasher::empty_pool(); 32],
             last_reseed: 0,
             reseed_count: 0,
             reseeded: false,
             key_requests: 0,
-            scheduler_key: scheduler_key,
+            scheduler_key,
             step: 0,
         }
     }
 
-    // 21, all clauses.
-    fn is_malformed(self) -> bool
-        ensures { result ≡ malformed self }
+    // Whether generator, timer and the count of requests contradict each other: the timer stays at 0.
+    #[tactic(auto, using(crate::proofs::Acceptance::fields))]
+    fn has_malformed_fields(&self) -> bool
+        ensures { result ≡ malformed_fields (decode self.now.generator) self.now.reseeded self.now.last_reseed self.now.reseed_count self.now.key_requests }
     {
-        let pools = self.pools;
-        if any_malformed(pools) {
-            return true;
+        self.generator.is_malformed()
+            || self.reseeded
+            || self.last_reseed != 0
+            || self.reseed_count != 0
+            || self.generator.is_unseeded() && self.key_requests != 0
+    }
+
+    // 21, all clauses.
+    #[tactic(auto, unfolding(crate::specs::State::malformed))]
+    fn is_malformed(&self) -> bool
+        ensures { result ≡ malformed self.now }
+    {
+        any_malformed(&self.pools) || self.has_malformed_fields()
+    }
+
+    // No pool reseed is ever due.
+    #[tactic(auto, unfolding(crate::specs::State::standing))]
+    fn standing(&self) -> Standing
+        ensures { result ≡ standing self.now }
+    {
+        Standing {
+            malformed: self.is_malformed(),
+            generator: self.generator,
+            due: false,
         }
-        fields_malformed(
-            self.generator,
-            self.reseeded,
-            self.last_reseed,
-            self.reseed_count,
-            self.key_requests,
-        )
+    }
+
+    // The answer to the state's step.
+    #[tactic(auto, using(crate::proofs::Acceptance::spent_once), unfolding(crate::specs::Refusals::step_number, crate::specs::Refusals::max_step))]
+    fn step_answer(&self) -> Result<(), Refusal>
+        ensures { number result ≡ step_number (decode self.now.generator).count self.now.step }
+    {
+        if self.step == u64::MAX {
+            return Err(Refusal::StepsSpent);
+        }
+        if empties(self.step) && self.generator.is_spent(1) {
+            return Err(Refusal::CounterSpent);
+        }
+        Ok(())
+    }
+
+    // The answer to an event of n bytes of data, where the pool that the step picks holds `size` bytes.
+    fn event_answer(&self, size: u64, source: u32, n: usize) -> Result<(), Refusal>
+        ensures { number result ≡ event_number (malformed self.now) size source n (counter_of self.now) self.now.step }
+    {
+        // The event names no pool, so any of the 32 may stand for it.
+        event_answer(self.is_malformed(), size, source, 0, n)?;
+        self.step_answer()
     }
 
     // Pool i goes into the key, by a reseed with its digest.
-    fn empty_into(mut self, i: usize) -> Keyed
-        requires { Emptiable self i }
-        ensures { result ≡ emptied_into self i }
+    fn empty_into(&mut self, i: usize)
+        requires { Emptiable self.old i }
+        ensures { self.new ≡ emptied_into self.old i }
     {
-        let pool = self.pools[i];
-        let hashed = pool.pool_digest();
-        let digest = hashed.digest;
-        let outcome = self.generator.reseed(&digest);
-        let generator = outcome.next;
-        self.generator = generator;
-        let empty = Hasher::empty_pool();
-        self.pools[i] = empty;
+        let digest = self.pools[i].pool_digest().unwrap();
+        self.generator = self.generator.reseed(&digest).next;
+        self.pools[i] = Hasher::empty_pool();
         self.key_requests = 0;
-        self
     }
 
-    // The state after an accepted event.
-    fn after_event(mut self, place: usize, reseeds: bool, source: u32, data: &[u8]) -> Keyed
-        requires { (place ≡ picked self) × (reseeds ≡ empties self.step) × (call_number self (event source «data».now) ≡ 0) }
-        ensures { result ≡ (add_event self (event_bytes source «data».now)).next }
+    // An accepted event. Says how many pools its step emptied.
+    fn take(&mut self, place: usize, source: u32, data: &[u8]) -> u32
+        requires { (place ≡ picked self.old) × (call_number self.old (event source «data».now) ≡ 0) }
+        ensures { (result ≡ (add_event self.old (event_bytes source «data».now)).emptied)
+            × (self.new ≡ (add_event self.old (event_bytes source «data».now)).next) }
     {
-        let held = self.pools[place];
-        let next = gained_pool(held, source, data);
-        self.pools[place] = next;
-        let t = self.step;
+        self.pools[place] = gained_pool(self.pools[place], source, data);
+        let reseeds = empties(self.step);
         if reseeds {
-            let out = output_pool(t);
-            let after = self.empty_into(out);
-            self = after;
+            self.empty_into(output_pool(self.step) as usize);
         }
-        self.step = t + 1;
-        self
+        self.step += 1;
+        u32::from(reseeds)
     }
 
     // An event from a source, into the pool that the step picks.
-    pub fn add_event(mut self, source: u32, data: &[u8]) -> Outcome
+    pub fn add_event(mut self, source: u32, data: &[u8]) -> Outcome<Keyed>
         ensures { Gives (step self (event source «data».now)) result }
     {
-        let malformed = self.is_malformed();
-        let key = self.scheduler_key;
-        let t = self.step;
-        let pool = input_pool(key, t);
-        let place = pool as usize;
-        let held = self.pools[place];
-        let answer = keyed_event_answer(
-            malformed,
-            held.length,
-            source,
-            data.len(),
-            self.generator,
-            t,
-        );
-        let reseeds = empties(t);
-        let mut emptied = 0u32;
-        if answer.is_done() {
-            let next = self.after_event(place, reseeds, source, data);
-            self = next;
-            emptied = count_of(reseeds);
+        let place = input_pool(self.scheduler_key, self.step) as usize;
+        let answer = self.event_answer(self.pools[place].length, source, data.len());
+        let mut emptied = 0;
+        if answer.is_ok() {
+            emptied = self.take(place, source, data);
         }
         Outcome {
-            answer: answer,
-            emptied: emptied,
+            answer,
+            emptied,
             next: self,
         }
     }
 
-    // Bytes made from a generator's K and C, and one request more on the key.
-    fn serve(mut self, generator: Generator, out: &mut [u8]) -> Keyed
-        requires { Servable generator (length out.old) }
-        ensures { ServedFrom self generator (length out.old) result out.new }
+    // Bytes made from K and C, and one request more on the key.
+    fn serve(&mut self, out: &mut [u8])
+        requires { Servable self.old.generator (length out.old) }
+        ensures { (self.new ≡ (random_data self.old (length out.old)).next) × (out.new ≡ (random_data self.old (length out.old)).buffer) }
     {
-        let outcome = generator.pseudo_random_data(out);
-        let made = outcome.next;
-        self.generator = made;
-        let count = counted(self.key_requests);
-        self.key_requests = count;
-        self
+        self.generator = self.generator.pseudo_random_data(out).next;
+        self.key_requests = counted(self.key_requests);
     }
 
     // Fills the buffer with random bytes.
-    pub fn random_data(mut self, out: &mut [u8]) -> Outcome
+    pub fn random_data(mut self, out: &mut [u8]) -> Outcome<Keyed>
         ensures { GivesBytes (step self (request out.old)) result out.new }
     {
-        let malformed = self.is_malformed();
-        let answer = request_answer(malformed, self.generator, false, out.len());
-        if answer.is_done() {
-            let next = self.serve(self.generator, out);
-            self = next;
+        let answer = self.standing().request_answer(out.len());
+        if answer.is_ok() {
+            self.serve(out);
         }
         Outcome {
-            answer: answer,
+            answer,
             emptied: 0,
             next: self,
         }
     }
 
     // Fills the 64 bytes with a new seed.
-    pub fn write_seed(mut self, seed: &mut [u8]) -> Outcome
+    pub fn write_seed(mut self, seed: &mut [u8]) -> Outcome<Keyed>
         ensures { GivesBytes (step self (write seed.old)) result seed.new }
     {
-        let malformed = self.is_malformed();
-        let answer = write_answer(malformed, self.generator, false, seed);
-        if answer.is_done() {
-            let next = self.serve(self.generator, seed);
-            self = next;
+        let answer = self.standing().write_answer(seed);
+        if answer.is_ok() {
+            self.serve(seed);
         }
         Outcome {
-            answer: answer,
+            answer,
             emptied: 0,
             next: self,
         }
     }
 
     // The 64 bytes reseed the generator, then a new seed overwrites them.
-    pub fn update_seed(mut self, seed: &mut [u8]) -> Outcome
+    pub fn update_seed(mut self, seed: &mut [u8]) -> Outcome<Keyed>
         ensures { GivesBytes (step self (update seed.old)) result seed.new }
     {
-        let malformed = self.is_malformed();
-        let answer = update_answer(malformed, self.generator, false, seed);
-        if answer.is_done() {
-            let mixed = self.generator.reseed(seed);
-            let next = self.serve(mixed.next, seed);
-            self = next;
+        let answer = self.standing().update_answer(seed);
+        if answer.is_ok() {
+            self.generator = self.generator.reseed(seed).next;
+            self.serve(seed);
         }
         Outcome {
-            answer: answer,
+            answer,
             emptied: 0,
             next: self,
         }

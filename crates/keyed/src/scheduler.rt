@@ -6,70 +6,39 @@ ghost use Rattle.keyed.specs.Scheduler.{step_block, input_pool, empties, output_
 fn step_block(t: u64) -> [u8; 16]
     ensures { result ≡ step_block t }
 {
-    let t1 = t / 256;
-    let t2 = t1 / 256;
-    let t3 = t2 / 256;
-    let t4 = t3 / 256;
-    let t5 = t4 / 256;
-    let t6 = t5 / 256;
-    let t7 = t6 / 256;
-    [
-        (t % 256) as u8,
-        (t1 % 256) as u8,
-        (t2 % 256) as u8,
-        (t3 % 256) as u8,
-        (t4 % 256) as u8,
-        (t5 % 256) as u8,
-        (t6 % 256) as u8,
-        (t7 % 256) as u8,
-        0,
-        0,
-        0,
-        0,
-        0,
-        0,
-        0,
-        0,
-    ]
+    u128::from(t).to_le_bytes()
 }
 
 // The pool that the event at step t goes to.
+#[tactic(auto, unfolding(crate::specs::Scheduler::input_pool, pools::specs::Events::pool_count))]
 pub fn input_pool(key: [u8; 32], t: u64) -> u32
     ensures { result ≡ input_pool key t }
 {
     let block = word_cipher::encrypt(key, step_block(t));
-    (block[0] % 32) as u32
+    u32::from(block[0] % 32)
 }
 
 // Whether step t empties a pool.
+#[tactic(auto, unfolding(crate::specs::Scheduler::empties))]
 pub(crate) fn empties(t: u64) -> bool
     ensures { result ≡ empties t }
 {
-    if t == 0 {
-        return false;
-    }
-    t % 32 == 0
+    t > 0 && t % 32 == 0
 }
 
-// The pool that it empties: the largest i up to 31 with 32 * 2^i dividing t. The power is 32 * 2^(i + 1).
-pub(crate) fn output_pool(t: u64) -> usize
+// The pool that it empties: the largest i up to 31 with 32 * 2^i dividing t.
+#[tactic(auto, using(crate::proofs::Outputs::output_by_zeros))]
+pub(crate) fn output_pool(t: u64) -> u32
     ensures { result ≡ output_pool t }
 {
-    let mut i: usize = 0;
-    let mut power: u64 = 64;
-    while i < 31 && t % power == 0 {
-        power = 2 * power;
-        i = i + 1;
-    }
-    i
+    t.trailing_zeros().saturating_sub(5).min(31)
 }
 
 // The pool that step t empties, or 32 where it empties none.
+// Kept: (a) 32 for none, and no Option: the clause, by `emptied_at`, says 32, and README does.
+#[tactic(auto, unfolding(crate::specs::Scheduler::emptied_at, pools::specs::Events::pool_count))]
 pub fn emptied_at(t: u64) -> u32
     ensures { result ≡ emptied_at t }
 {
-    if empties(t) {
-        return output_pool(t) as u32;
-    }
-    32
+    if empties(t) { output_pool(t) } else { 32 }
 }

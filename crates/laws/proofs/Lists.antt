@@ -12,6 +12,8 @@ use lib.Dec.{eqb}
 use lib.ListN.{length, get_or, drop, set, replicate, length-set, length-replicate, get_or-replicate}
 use lib.Seq.{ext_get_or, get_or-set_same, get_or-set_other}
 use borrow.Author.Tests.{eqb-true, eqb-false, eq-eqb}
+use Rattle.std.specs.List.{list_all}
+use Rattle.std.specs.Prelude.{◌==◌, ◌&&◌}
 use Rattle.laws.specs.Lists.{tabulate, all_zero, same_list, joined}
 use Rattle.laws.proofs.Cases.{by-test, both}
 use Rattle.laws.proofs.Tabulate.{length-tabulate, get_d_tabulate}
@@ -104,3 +106,10 @@ same_list-equal (x ∷ l) [] h = absurd (true≢false (sym h))
 same_list-equal (x ∷ l) (y ∷ m) h =
     let p = both (eqb x y) (same_list l m) h in
     rw (eqb-true x y p.0, same_list-equal l m p.1)
+
+-- ---- the library's test of all elements
+
+pub list_all_zero : (l : List ℕ) → list_all (λ x. x == 0) l ≡ all_zero l
+unfolding all_zero
+list_all_zero [] = refl
+list_all_zero (x ∷ l) = ap (λ b. (x == 0) && b) (list_all_zero l)

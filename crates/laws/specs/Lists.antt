@@ -8,7 +8,7 @@ tabulate f zero = []
 tabulate f (suc n) = tabulate f n ++ (f n ∷ [])
 
 -- d with its first bytes replaced by those of s, as many as there is room for
-unfoldable pub overwrite : List ℕ → List ℕ → List ℕ
+unfoldable pub overwrite : {A : Type 0} → List A → List A → List A
 overwrite d s = take (length d) s ++ drop (length s) d
 
 -- every element is 0

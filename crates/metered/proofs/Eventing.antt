@@ -1,19 +1,19 @@
 -- An event with its list: its number, the list it leaves, and the pool to store.
 -- Assumes nothing.
-use mathlib.Core.Path.{◌≡◌, refl, sym, ap, ap₂, subst, subst₂, ◌∙◌}
+use mathlib.Core.Path.{◌≡◌, refl, sym, ap, ap₂, ◌∙◌}
 use mathlib.Core.Logic.{◌≢◌}
 use mathlib.Core.Bool.{Bool, true, false, cond}
 use mathlib.Core.List.{List, []}
 use Prim.Native.Nat.{ℕ, ◌-◌, ◌%◌}
-use native.Mathlib.Nat.{mod-eq_of_lt}
 use lib.Dec.{eqb, ltb}
 use lib.ListN.{length}
-use borrow.Author.Tests.{eqb-true, eqb-false, ne_eqb}
+use borrow.Author.Tests.{eqb-true, eqb-false}
+use Rattle.std.proofs.Common.{Result}
 use Rattle.laws.specs.Refusals.{refuse}
 use Rattle.laws.proofs.Cases.{by-test}
 use Rattle.pools.specs.declared.Fortuna.{Fortuna}
 use Rattle.pools.specs.declared.Gain.{Gain}
-use Rattle.pools.specs.declared.Outcome as Method
+use Rattle.pools.specs.declared.refusal.Refusal.{Refusal}
 use Rattle.pools.specs.Events.{max_source, pool_count, gain}
 use Rattle.pools.specs.Pool.{full}
 use Rattle.pools.specs.State.{pool_at, malformed}
@@ -22,7 +22,7 @@ use Rattle.pools.specs.Effects.{with_pool, unchanged}
 use Rattle.pools.specs.Calls.{Call, event, input_buffer, input_number, state_number, call_number, call_found, call_value, call_effect, Outcome, outcome, step}
 use Rattle.pools.specs.Promises.{number, Gains}
 use Rattle.pools.proofs.Chains.{then-nothing, call-chains}
-use Rattle.pools.proofs.EventCalls.{pool-kept, gain-place}
+use Rattle.pools.proofs.EventCalls.{pool-kept}
 use Rattle.pools.proofs.Outcomes.{outcome-refused}
 use Rattle.quotas.specs.declared.Quota.{Quota}
 use Rattle.quotas.specs.Records.{quotas_number, charged}
@@ -30,9 +30,9 @@ use Rattle.quotas.specs.Charges.{comes_first, charge_number, charge_list}
 use Rattle.quotas.specs.Entries.{within, taking, list_number, entry_number, entry_step}
 use Rattle.quotas.specs.Left.{left_by}
 use Rattle.quotas.proofs.Left.{left-refused, left-charged}
-use Rattle.metered.specs.declared.events.Known.{Known}
-use Rattle.metered.specs.Metering.{known_of, cost_of, Knows, answered_by, settled_by, Meters, MetersGain}
-use Rattle.metered.proofs.EventNumbers.{ByState, Own, answer-is, own_number, listed_number, charge-number, own-or-list, listed-passed}
+use Rattle.hash.specs.declared.hasher.Hasher.{Hasher}
+use Rattle.metered.specs.Metering.{known_of, cost_of, Meters, MetersGain}
+use Rattle.metered.proofs.EventNumbers.{ByState, own_number, listed_number, charge-number, listed-passed}
 
 -- ---- its state's number
 
@@ -85,9 +85,6 @@ module _ (s : Fortuna) (rs : List Quota) (source pool : ℕ) (content : List ℕ
       ∙ charge-number rs source n no_source no_pool (state_number s c) (state-late s source pool content)
       ∙ sym number-with
 
-  own-number : Own (call_number s c) N
-  own-number = subst₂ Own (sym number-own) (sym number-with) (own-or-list rs source n no_source no_pool (state_number s c))
-
   -- ---- accepted: as without a list
 
   module _ (accepted : N ≡ 0) where
@@ -102,36 +99,12 @@ module _ (s : Fortuna) (rs : List Quota) (source pool : ℕ) (content : List ℕ
   unfolding entry_step input_buffer
   E-refused h = outcome-refused N (call_found s c) (call_value s c) [] s (call_effect s c) h
 
-  -- ---- what is stored, and the list
+  -- ---- what is stored, and the list: a is the answer by the list, and g what the event comes to without one
 
-  module _ (k : Known) (m : ℕ) (knows : Knows s (quotas_number rs) source pool content k) (is : m ≡ N) where
-    settled-done : m ≡ 0 → settled_by k m ≡ k.gain
-    unfolding settled_by
-    settled-done e = rw e
-
-    settled-refused : m ≢ 0 → settled_by k m ≡ record { answer = answered_by k.gain.answer m; place = k.gain.place; pool = k.held }
-    unfolding settled_by
-    settled-refused h = rw (ne_eqb m 0 h)
-
-    gains-done : m ≡ 0 → Gains E s pool (settled_by k m)
-    gains-done e = rw (E-done (sym is ∙ e), settled-done e) knows.3
-
-    answer-refused : number (answered_by k.gain.answer m) ≡ N
-    answer-refused =
-        answer-is k.gain.answer m (λ x y z.
-        knows.3.0 ∙ own_is ∙ own-number (ap (λ (j : ℕ). eqb j 37) (sym is) ∙ x) (ap (λ (j : ℕ). eqb j 38) (sym is) ∙ y)
-        (ap (λ (j : ℕ). eqb j 39) (sym is) ∙ z) ∙ sym is)
-        ∙ is
-
-    gains-refused : m ≢ 0 → Gains E s pool (settled_by k m)
-    unfolding unchanged
-    gains-refused h =
-        let place = knows.3.2 in
-        rw (E-refused (λ e. h (is ∙ e)), settled-refused h)
-        (answer-refused, refl, place, ap₂ (with_pool s) place knows.2 ∙ pool-kept s (pool % pool_count), knows.2)
-
-    pub gains : Gains E s pool (settled_by k m)
-    gains = by-test (eqb m 0) (Gains E s pool (settled_by k m)) (λ t. gains-done (eqb-true m 0 t)) (λ t. gains-refused (eqb-false m 0 t))
+  -- charged by its own number without a list
+  charged-number : (own : ℕ) → own ≡ (step s c).number → charge_number rs source (cost_of n) (known_of own (quotas_number rs)) ≡ N
+  charged-number own e =
+      ap (λ (k : ℕ). charge_number rs source (cost_of n) (known_of k (quotas_number rs))) (e ∙ own_is) ∙ number_is
 
   list_left : (cost : ℕ) → (N ≡ 0 → cost ≡ gain n) → cond (eqb N 0) (charged rs source cost) rs ≡ left_by s rs c
   list_left cost h =
@@ -139,24 +112,35 @@ module _ (s : Fortuna) (rs : List Quota) (source pool : ℕ) (content : List ℕ
       (λ t. let e = eqb-true N 0 t in rw (t, h e) (sym (left-charged s rs source pool content e)))
       (λ t. rw t (sym (left-refused s rs c (eqb-false N 0 t))))
 
-  pub metered-gain :
-      (k : Known) (fault m : ℕ) (zs : List Quota) (g : Gain) → fault ≡ quotas_number rs → Knows s fault source pool content k →
-      (m ≡ charge_number rs source k.cost k.number) × (zs ≡ charge_list rs source k.cost k.number) → g ≡ settled_by k m →
-      MetersGain s rs source pool content g zs
-  unfolding charge_list
-  metered-gain k fault m zs g e₁ e₂ e₃ e₄ =
-      let knows : Knows s (quotas_number rs) source pool content k = subst (λ (f : ℕ). Knows s f source pool content k) e₁ e₂ in
-      let known : k.number ≡ known_of (call_number s c) (quotas_number rs) = knows.0 ∙ ap (λ (own : ℕ). known_of own (quotas_number rs)) own_is in
-      let given : charge_number rs source k.cost k.number ≡ N = ap₂ (charge_number rs source) knows.1 known ∙ number_is in (
-        subst (Gains E s pool) (sym e₄) (gains k m knows (e₃.0 ∙ given)),
-        e₃.1 ∙ ap (λ (j : ℕ). cond (eqb j 0) (charged rs source k.cost) rs) given ∙ list_left k.cost (λ z. knows.1 ∙ (both z).1),
-      )
+  module _ (g : Gain) (k : ℕ) (zs : List Quota) (own : Gains (step s c) s pool g)
+      (told : k ≡ charge_number rs source (cost_of n) (known_of (number g.answer) (quotas_number rs)))
+      (settled : zs ≡ charge_list rs source (cost_of n) (known_of (number g.answer) (quotas_number rs))) where
+    told-is : k ≡ N
+    told-is = told ∙ charged-number (number g.answer) own.0
+
+    left_is : zs ≡ left_by s rs c
+    unfolding charge_list
+    left_is =
+        settled ∙ ap (λ (j : ℕ). cond (eqb j 0) (charged rs source (cost_of n)) rs) (charged-number (number g.answer) own.0)
+        ∙ list_left (cost_of n) (λ z. (both z).1)
+
+    pub metered-done : k ≡ 0 → MetersGain s rs source pool content g zs
+    metered-done z = (rw (E-done (sym told-is ∙ z)) own, left_is)
+
+    pub metered-refused :
+        (a : Result Unit Refusal) (held : Hasher) → k ≢ 0 → number a ≡ k → held ≡ pool_at s g.place →
+        MetersGain s rs source pool content (record { answer = a; place = g.place; pool = held }) zs
+    unfolding unchanged
+    metered-refused a held some is kept =
+        let place = own.2 in
+        let there : held ≡ pool_at s (pool % pool_count) = kept ∙ ap (pool_at s) place in (
+          rw (E-refused (λ z. some (told-is ∙ z)))
+              (is ∙ told-is, refl, place, ap₂ (with_pool s) place there ∙ pool-kept s (pool % pool_count), there),
+          left_is,
+        )
 
   -- the pool stored: the event's outcome
   pub stored-gain :
-      (g : Gain) (r : Method.Outcome) (left : List Quota) → MetersGain s rs source pool content g left →
-      (r.answer ≡ g.answer) × (r.emptied ≡ 0) × (r.next ≡ with_pool s (g.place % 32) g.pool) → Meters s rs c r left
-  stored-gain g r left m e =
-      let given = m.0 in
-      let place : g.place % 32 ≡ g.place = mod-eq_of_lt (gain-place pool g.place given.2) in
-      ((ap number e.0 ∙ given.0, e.1 ∙ sym given.1, e.2 ∙ ap (λ (i : ℕ). with_pool s i g.pool) place ∙ given.3), m.1)
+      (g : Gain) (left : List Quota) → MetersGain s rs source pool content g left →
+      Meters s rs c (record { answer = g.answer; emptied = 0; next = with_pool s g.place g.pool }) left
+  stored-gain g left m = let given = m.0 in ((given.0, sym given.1, given.3), m.1)

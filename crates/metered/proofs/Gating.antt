@@ -1,112 +1,98 @@
--- A call that is no event, behind the check of its list.
+-- What the gate of a list gives, and a call of either scheduler that is no event behind it: it has the input number i and the state number n.
 -- Assumes nothing.
-use mathlib.Core.Path.{◌≡◌, refl, ap, ◌∙◌}
+use mathlib.Core.Path.{◌≡◌, refl, sym, ap, ◌∙◌}
 use mathlib.Core.Bool.{Bool, true, false, cond}
 use mathlib.Core.Logic.{◌≢◌}
 use mathlib.Core.List.{List}
 use Prim.Native.Nat.{ℕ}
 use native.Mathlib.Omega.{arith}
-use lib.Dec.{eqb, ltb}
-use borrow.Author.Tests.{eq-eqb, ne_eqb}
-use Rattle.laws.proofs.Cases.{split}
-use Rattle.pools.specs.declared.Fortuna.{Fortuna}
-use Rattle.pools.specs.declared.Outcome as Method
-use Rattle.pools.specs.declared.answer.Answer.{Answer}
+use lib.Dec.{eqb}
+use borrow.Author.Tests.{eqb-true, eqb-false, ne_eqb}
+use Rattle.std.proofs.Common.{Result, Ok, Err}
+use Rattle.std.specs.Result.{is_ok, result_and}
+use Rattle.laws.proofs.Cases.{by-test}
+use Rattle.pools.specs.declared.refusal.Refusal.{Refusal}
 use Rattle.pools.specs.Refusals.{and_then}
 use Rattle.pools.specs.Effects.{Effect, unchanged}
-use Rattle.pools.specs.Calls.{Call, request, update, write, draw, shuffle, input_buffer, input_number, state_number, call_found, call_value, call_effect, Outcome, outcome, step}
-use Rattle.pools.specs.Promises.{number, GivesBytes, GivesValue}
-use Rattle.pools.proofs.Chains.{then-second, both-passed, call-chains}
+use Rattle.pools.specs.Calls.{Outcome, outcome}
+use Rattle.pools.specs.Promises.{code, code-above-0, number}
+use Rattle.pools.proofs.Chains.{then-first, then-second, both-passed}
 use Rattle.pools.proofs.Outcomes.{outcome-refused}
 use Rattle.quotas.specs.declared.Quota.{Quota}
 use Rattle.quotas.specs.Records.{malformed_quotas, quotas_number}
-use Rattle.quotas.specs.Charges.{cleared_after}
-use Rattle.quotas.specs.Entries.{within, taking, list_number, entry_number, entry_step, charged_for, quotas_left}
-use Rattle.quotas.specs.Left.{left_by}
-use Rattle.metered.specs.Metering.{gated_step}
+use Rattle.metered.specs.Metering.{gate_number}
 
--- ---- calls that are no events: the list gives them 37 alone, and they charge nothing
-
-pub record Plain (c : Call) : Type 0 where
-  pub number : (rs : List Quota) → list_number (within rs) c ≡ quotas_number rs
-  pub free : (rs : List Quota) → charged_for c rs ≡ rs
-
-pub request-plain : (clock : ℕ) (buffer : List ℕ) → Plain (request clock buffer)
-unfolding list_number charged_for
-request-plain clock buffer = record { number = λ rs. refl; free = λ rs. refl }
-
-pub update-plain : (clock : ℕ) (seed : List ℕ) → Plain (update clock seed)
-unfolding list_number charged_for
-update-plain clock seed = record { number = λ rs. refl; free = λ rs. refl }
-
-pub write-plain : (clock : ℕ) (seed : List ℕ) → Plain (write clock seed)
-unfolding list_number charged_for
-write-plain clock seed = record { number = λ rs. refl; free = λ rs. refl }
-
-pub shuffle-plain : (clock : ℕ) (list : List ℕ) → Plain (shuffle clock list)
-unfolding list_number charged_for
-shuffle-plain clock list = record { number = λ rs. refl; free = λ rs. refl }
-
-pub draw-plain : (clock n d : ℕ) → Plain (draw clock n d)
-unfolding list_number charged_for
-draw-plain clock n d = record { number = λ rs. refl; free = λ rs. refl }
+-- ---- the gate's answer
 
 -- the check gives 0 or 37
-pub fault-is : (rs : List Quota) → cond (eqb (quotas_number rs) 0) 0 37 ≡ quotas_number rs
+fault-is : (rs : List Quota) → quotas_number rs ≢ 0 → quotas_number rs ≡ 37
 unfolding quotas_number
 fault-is rs = go (malformed_quotas rs)
   where
-    go : (t : Bool) → cond (eqb (cond t 37 0) 0) 0 37 ≡ cond {A = ℕ} t 37 0
-    go true = refl
-    go false = refl
+    go : (t : Bool) → cond {A = ℕ} t 37 0 ≢ 0 → cond {A = ℕ} t 37 0 ≡ 37
+    go true h = refl
+    go false h = absurd (h refl)
 
--- behind the check's own number the call is the call with its list
-pub gated-listed : (c : Call) → Plain c → (s : Fortuna) (rs : List Quota) → gated_step (quotas_number rs) s c ≡ entry_step s (taking (within rs) c)
-unfolding gated_step entry_step entry_number
-gated-listed c p s rs = rw (fault-is rs, p.number rs)
+-- a refusal's number is not 0
+pub some-code : (refusal : Refusal) → code refusal ≢ 0
+some-code refusal e = let h = code-above-0 refusal in omega (arith, h, e)
 
--- and its list is cleared after a pool reseed
-pub left-plain : (c : Call) → Plain c → (s : Fortuna) (rs : List Quota)
-    → left_by s rs c ≡ cleared_after (entry_step s (taking (within rs) c)).effect.emptied rs
-unfolding left_by quotas_left cleared_after
-left-plain c p s rs =
-    let o : Outcome Fortuna = entry_step s (taking (within rs) c) in
-    rw (p.free rs) (ap (λ (l : List Quota). cond (ltb 0 o.effect.emptied) (cleared_after 1 rs) l)
-    (split (λ (l : List Quota). l ≡ rs) (eqb o.number 0) (λ _. refl) (λ _. refl)))
+-- the number of an answer by the code's test for a call that is done
+pub done-number : (answer : Result Unit Refusal) → true ≡ is_ok answer → number answer ≡ 0
+done-number (Ok x) e = refl
+done-number (Err refusal) e = cc
 
--- ---- the gate shut, and open
+pub refused-number : (answer : Result Unit Refusal) → false ≡ is_ok answer → number answer ≢ 0
+refused-number (Ok x) e = cc
+refused-number (Err refusal) e = some-code refusal
 
--- a call of any kind on any state: its input number i, then 37, whatever its state number n
-gate-number : (fault i n : ℕ) → fault ≢ 0 → and_then i (and_then (cond (eqb fault 0) 0 37) n) ≡ and_then i 37
-unfolding and_then
-gate-number fault i n some = rw (ne_eqb fault 0 some)
+-- by a list without a fault
+pub gate-passed : (checked : Result Unit Refusal) (fault i : ℕ) → true ≡ is_ok checked → number checked ≡ fault → number checked ≡ gate_number fault i
+unfolding gate_number
+gate-passed (Ok x) fault i t e = rw (← e)
+gate-passed (Err refusal) fault i t e = cc
 
-not-zero : (i : ℕ) → and_then i 37 ≢ 0
-not-zero i e = let k : ◌≡◌ {A = ℕ} 37 0 = (both-passed i 37 e).1 in absurd (omega (arith, k))
+-- and by one with a fault
+by-input :
+    (refusal : Refusal) (input : Result Unit Refusal) → code refusal ≡ 37 →
+    number {T = Unit} (result_and input (Err refusal)) ≡ and_then (number input) 37
+by-input refusal (Ok x) h = h ∙ sym (then-second 0 37 refl)
+by-input refusal (Err own) h = sym (then-first (code own) 37 (some-code own))
 
-pub shut-outcome : {S : Type 0} (fault i n : ℕ) (found : Bool) (value : ℕ) (buffer : List ℕ) (s : S) (done : Effect S) → fault ≢ 0
-    → outcome (and_then i (and_then (cond (eqb fault 0) 0 37) n)) found value buffer s done
-    ≡ record { number = and_then i 37; value = 0; effect = unchanged buffer s }
-shut-outcome fault i n found value buffer s done some =
-    rw (gate-number fault i n some) (outcome-refused (and_then i 37) found value buffer s done (not-zero i))
+pub gate-shut :
+    (checked input : Result Unit Refusal) (rs : List Quota) → false ≡ is_ok checked → number checked ≡ quotas_number rs →
+    number (result_and input checked) ≡ gate_number (quotas_number rs) (number input)
+unfolding gate_number
+gate-shut (Ok x) input rs t e = cc
+gate-shut (Err refusal) input rs t e =
+    let some : quotas_number rs ≢ 0 = λ z. some-code refusal (e ∙ z) in
+    rw (ne_eqb (quotas_number rs) 0 some) (by-input refusal input (e ∙ fault-is rs some))
 
-module _ (fault : ℕ) (s : Fortuna) (c : Call) where
-  module _ (some : fault ≢ 0) where
-    gate-refuses : gated_step fault s c ≡ record { number = and_then (input_number c) 37; value = 0; effect = unchanged (input_buffer c) s }
-    unfolding gated_step
-    gate-refuses = shut-outcome fault (input_number c) (state_number s c) (call_found s c) (call_value s c) (input_buffer c) s (call_effect s c) some
+-- ---- the call with its list, behind the gate
 
-    -- a refusal from the answer by the input alone, which is k
-    pub gate-shut : (k : ℕ) → k ≡ input_number c → (r : Method.Outcome)
-        → (number r.answer ≡ and_then k 37) × (r.emptied ≡ 0) × (r.next ≡ s) → GivesBytes (gated_step fault s c) r (input_buffer c)
-    unfolding unchanged
-    gate-shut k i r g = rw gate-refuses ((g.0 ∙ ap (λ (n : ℕ). and_then n 37) i, g.1, g.2), refl)
+module _ {S : Type 0} (rs : List Quota) (i n : ℕ) (found : Bool) (value : ℕ) (buffer : List ℕ) (s : S) (done : Effect S) where
+  abbrev listed : Outcome S
+  listed = outcome (and_then i (and_then (quotas_number rs) n)) found value buffer s done
 
-    pub draw-shut : (k : ℕ) → k ≡ input_number c → (answer : Answer) → number answer ≡ and_then k 37
-        → GivesValue (gated_step fault s c) answer 0 0 s
-    unfolding unchanged
-    draw-shut k i answer g = rw gate-refuses (g ∙ ap (λ (n : ℕ). and_then n 37) i, refl, refl, refl)
+  -- where the gate lets it pass, it is the call without a list
+  pub passed-is : 0 ≡ gate_number (quotas_number rs) i → outcome (and_then i n) found value buffer s done ≡ listed
+  unfolding gate_number
+  passed-is h =
+      by-test (eqb (quotas_number rs) 0) _
+      (λ t. ap (λ (k : ℕ). outcome (and_then i k) found value buffer s done) (sym (then-second (quotas_number rs) n (eqb-true _ 0 t))))
+      (λ t.
+      let e : 0 ≡ and_then i 37 = rw t at h in
+      let k : ◌≡◌ {A = ℕ} 37 0 = (both-passed i 37 (sym e)).1 in
+      absurd (omega (arith, k)))
 
-  pub gate-open : fault ≡ 0 → gated_step fault s c ≡ step s c
-  unfolding gated_step step
-  gate-open e = rw (eq-eqb fault 0 e, then-second 0 (state_number s c) refl, ← call-chains s c)
+  -- where it does not, nothing is done
+  pub refused-is : (k : ℕ) → k ≢ 0 → k ≡ gate_number (quotas_number rs) i → listed ≡ record { number = k; value = 0; effect = unchanged buffer s }
+  unfolding gate_number
+  refused-is k some h =
+      by-test (eqb (quotas_number rs) 0) _
+      (λ t. absurd (some (h ∙ rw t)))
+      (λ t.
+      let fault : quotas_number rs ≡ 37 = fault-is rs (eqb-false _ 0 t) in
+      let number_is : and_then i (and_then (quotas_number rs) n) ≡ k =
+      ap (and_then i) (then-first (quotas_number rs) n (eqb-false _ 0 t) ∙ fault) ∙ sym (h ∙ rw t) in
+      rw number_is (outcome-refused k found value buffer s done some))

@@ -1,15 +1,16 @@
 -- An event of the keyed scheduler with its list: its number, its outcome, and the list that it leaves.
 -- Assumes nothing.
-use mathlib.Core.Path.{◌≡◌, refl, sym, ap, ap₂, subst, subst₂, ◌∙◌}
+use mathlib.Core.Path.{◌≡◌, refl, sym, ap, ap₂, ◌∙◌}
 use mathlib.Core.Logic.{◌≢◌}
 use mathlib.Core.Bool.{Bool, true, false, cond, ◌&&◌}
 use mathlib.Core.List.{List, []}
 use Prim.Native.Nat.{ℕ}
 use lib.Dec.{eqb, ltb}
 use lib.ListN.{length}
-use borrow.Author.Tests.{eqb-true, eqb-false, ne_eqb}
+use borrow.Author.Tests.{eqb-true}
+use Rattle.std.proofs.Common.{Err}
 use Rattle.laws.specs.Refusals.{refuse}
-use Rattle.laws.proofs.Cases.{by-test, cond-cong}
+use Rattle.laws.proofs.Cases.{cond-cong}
 use Rattle.pools.specs.Events.{max_source, gain}
 use Rattle.pools.specs.Pool.{full}
 use Rattle.pools.specs.Refusals as Pools
@@ -17,7 +18,9 @@ use Rattle.pools.specs.Refusals.{and_then}
 use Rattle.pools.specs.Effects.{unchanged}
 use Rattle.pools.specs.Calls as Calls
 use Rattle.pools.specs.Calls.{outcome}
-use Rattle.pools.specs.Promises.{number}
+use Rattle.pools.specs.declared.Outcome as Method
+use Rattle.pools.specs.declared.refusal.Refusal.{Refusal}
+use Rattle.pools.specs.Promises.{code, number, Gives}
 use Rattle.pools.proofs.Chains.{then-nothing}
 use Rattle.pools.proofs.Outcomes.{outcome-refused}
 use Rattle.quotas.specs.declared.Quota.{Quota}
@@ -26,18 +29,16 @@ use Rattle.quotas.specs.Charges.{comes_first, charge_number, charge_list, cleare
 use Rattle.quotas.specs.Entries.{within}
 use Rattle.quotas.proofs.Lists.{cleared-charged}
 use Rattle.keyed.specs.declared.Keyed.{Keyed}
-use Rattle.keyed.specs.declared.Outcome.{Outcome}
 use Rattle.keyed.specs.Scheduler.{empties}
 use Rattle.keyed.specs.State.{pool_at, counter_of, malformed, picked}
 use Rattle.keyed.specs.Refusals.{max_step, step_number, event_input, event_state}
 use Rattle.keyed.specs.Calls.{Call, event, input_buffer, input_number, state_number, call_number, call_effect, step}
 use Rattle.keyed.specs.Entries.{taking, list_number, entry_number, entry_step, charged_for, quotas_left, left_by}
-use Rattle.keyed.specs.Promises.{Gives}
 use Rattle.keyed.proofs.Chains.{call-chains}
-use Rattle.metered.specs.declared.keyed_events.KeyedKnown.{KeyedKnown}
-use Rattle.metered.specs.Metering.{known_of, cost_of, answered_by}
-use Rattle.metered.specs.KeyedMetering.{KeyedMeters, KeyedKnows, settled_keyed}
-use Rattle.metered.proofs.EventNumbers.{ByState, Own, answer-is, own_number, listed_number, charge-number, own-or-list, listed-passed}
+use Rattle.metered.specs.Metering.{known_of, cost_of}
+use Rattle.metered.specs.KeyedMetering.{KeyedMeters}
+use Rattle.metered.proofs.EventNumbers.{ByState, own_number, listed_number, charge-number, listed-passed}
+use Rattle.metered.proofs.Gating.{some-code}
 
 -- ---- its state's number
 
@@ -95,9 +96,6 @@ module _ (s : Keyed) (rs : List Quota) (source : ℕ) (content : List ℕ) where
       ∙ charge-number rs source n no_source false (state_number s c) (state-late s source content)
       ∙ sym number-with
 
-  own-number : Own (call_number s c) N
-  own-number = subst₂ Own (sym number-own) (sym number-with) (own-or-list rs source n no_source false (state_number s c))
-
   -- ---- accepted: as without a list; else everything is as it was
 
   module _ (accepted : N ≡ 0) where
@@ -111,30 +109,6 @@ module _ (s : Keyed) (rs : List Quota) (source : ℕ) (content : List ℕ) where
   E-refused : N ≢ 0 → E ≡ record { number = N; value = 0; effect = unchanged [] s }
   unfolding entry_step input_buffer
   E-refused h = outcome-refused N true 0 [] s (call_effect s c) h
-
-  -- ---- its outcome
-
-  module _ (k : KeyedKnown) (m : ℕ) (knows : KeyedKnows s (quotas_number rs) source content k) (is : m ≡ N) where
-    settled-done : m ≡ 0 → settled_keyed s k m ≡ k.outcome
-    unfolding settled_keyed
-    settled-done e = rw e
-
-    settled-refused : m ≢ 0 → settled_keyed s k m ≡ record { answer = answered_by k.outcome.answer m; emptied = 0; next = s }
-    unfolding settled_keyed
-    settled-refused h = rw (ne_eqb m 0 h)
-
-    gives-done : m ≡ 0 → Gives E (settled_keyed s k m)
-    gives-done e = rw (E-done (sym is ∙ e), settled-done e) knows.2
-
-    answer-refused : number (answered_by k.outcome.answer m) ≡ N
-    answer-refused = answer-is k.outcome.answer m (subst₂ Own (sym (knows.2.0 ∙ own_is)) (sym is) own-number) ∙ is
-
-    gives-refused : m ≢ 0 → Gives E (settled_keyed s k m)
-    unfolding unchanged
-    gives-refused h = rw (E-refused (λ e. h (is ∙ e)), settled-refused h) (answer-refused, refl, refl)
-
-    gives : Gives E (settled_keyed s k m)
-    gives = by-test (eqb m 0) (Gives E (settled_keyed s k m)) (λ t. gives-done (eqb-true m 0 t)) (λ t. gives-refused (eqb-false m 0 t))
 
   -- ---- its list: charged where it was accepted, and then with nothing spent where its step emptied a pool
 
@@ -152,16 +126,29 @@ module _ (s : Keyed) (rs : List Quota) (source : ℕ) (content : List ℕ) where
       cond-cong (ltb 0 E.effect.emptied) (λ t. cleared-list (eqb N 0) (gain n))
       (λ t. ap (λ (j : ℕ). cond (eqb j 0) (charged rs source (gain n)) rs) (sym listed-is))
 
-  pub metered-event :
-      (k : KeyedKnown) (fault m : ℕ) (ys : List Quota) (r : Outcome) (zs : List Quota) → fault ≡ quotas_number rs →
-      KeyedKnows s fault source content k →
-      (m ≡ charge_number rs source k.cost k.number) × (ys ≡ charge_list rs source k.cost k.number) →
-      r ≡ settled_keyed s k m → zs ≡ cleared_after r.emptied ys → KeyedMeters s rs c r zs
-  unfolding charge_list
-  metered-event k fault m ys r zs e₁ e₂ e₃ e₄ e₅ =
-      let knows : KeyedKnows s (quotas_number rs) source content k = subst (λ (f : ℕ). KeyedKnows s f source content k) e₁ e₂ in
-      let given : charge_number rs source k.cost k.number ≡ N = ap₂ (charge_number rs source) knows.1 knows.0 ∙ number_is in
-      let made : Gives E r = subst (Gives E) (sym e₄) (gives k m knows (e₃.0 ∙ given)) in
-      let charge : ys ≡ cond (eqb N 0) (charged rs source (gain n)) rs =
-      e₃.1 ∙ ap (λ (j : ℕ). cond (eqb j 0) (charged rs source k.cost) rs) given ∙ charged-list k.cost (λ z. knows.1 ∙ (both z).1) in
-      (made, e₅ ∙ ap₂ cleared_after made.1 charge ∙ list_left)
+  module _ (own : Method.Outcome Keyed) (k : ℕ) (ys : List Quota) (given : Gives (step s c) own)
+      (told : k ≡ charge_number rs source (cost_of n) (known_of (number own.answer) (quotas_number rs)))
+      (settled : ys ≡ charge_list rs source (cost_of n) (known_of (number own.answer) (quotas_number rs))) where
+    charged-number : charge_number rs source (cost_of n) (known_of (number own.answer) (quotas_number rs)) ≡ N
+    charged-number = ap (λ (m : ℕ). charge_number rs source (cost_of n) (known_of m (quotas_number rs))) given.0 ∙ number_is
+
+    told-is : k ≡ N
+    told-is = told ∙ charged-number
+
+    charge : ys ≡ cond (eqb N 0) (charged rs source (gain n)) rs
+    unfolding charge_list
+    charge =
+        settled ∙ ap (λ (j : ℕ). cond (eqb j 0) (charged rs source (cost_of n)) rs) charged-number
+        ∙ charged-list (cost_of n) (λ z. (both z).1)
+
+    pub gives-done : k ≡ 0 → Gives E own
+    gives-done z = rw (E-done (sym told-is ∙ z)) given
+
+    pub gives-refused :
+        (r : Method.Outcome Keyed) (refusal : Refusal) → code refusal ≡ k → (r.answer ≡ Err refusal) × (r.emptied ≡ 0) × (r.next ≡ s) → Gives E r
+    unfolding unchanged
+    gives-refused r refusal is h =
+        rw (E-refused (λ z. some-code refusal (is ∙ told-is ∙ z))) (ap number h.0 ∙ is ∙ told-is, h.1, h.2)
+
+    pub metered-event : (r : Method.Outcome Keyed) (zs : List Quota) → Gives E r → zs ≡ cleared_after r.emptied ys → KeyedMeters s rs c r zs
+    metered-event r zs made e = (made, e ∙ ap₂ cleared_after made.1 charge ∙ list_left)

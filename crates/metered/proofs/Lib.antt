@@ -1,6 +1,7 @@
-pub mod Gating
-pub mod KeyedGating
 pub mod EventNumbers
+pub mod Gating
+pub mod Charged
+pub mod PlainCalls
 pub mod Eventing
+pub mod KeyedPlainCalls
 pub mod KeyedEventing
-pub mod GatedCalls

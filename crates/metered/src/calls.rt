@@ -2,57 +2,91 @@
 ghost use Rattle.pools.specs.Calls.{request, update, write, draw, shuffle};
 ghost use Rattle.metered.specs.Metering.{MetersBytes, MetersValue};
 
-use crate::gates::{gated_draw, gated_request, gated_shuffle, gated_update, gated_write};
+use crate::gates::{gate, refused};
 use draws::Draw;
 use pools::{Fortuna, Outcome};
 use quotas::Quota;
 
 // A request.
-pub fn random_data(state: Fortuna, list: &mut [Quota], clock: u32, out: &mut [u8]) -> Outcome
+pub fn random_data(
+    state: Fortuna,
+    list: &mut [Quota],
+    clock: u32,
+    out: &mut [u8],
+) -> Outcome<Fortuna>
     ensures { MetersBytes state list.old (request clock out.old) result list.new out.new }
 {
-    let fault = quotas::check(list);
-    let o = gated_request(state, fault, clock, out);
-    quotas::clear_after(list, o.emptied);
-    o
+    let outcome = match gate(list, pools::request_input(out.len())) {
+        Ok(()) => state.random_data(clock, out),
+        Err(refusal) => refused(state, refusal),
+    };
+    quotas::clear_after(list, outcome.emptied);
+    outcome
 }
 
 // A seed update.
-pub fn update_seed(state: Fortuna, list: &mut [Quota], clock: u32, seed: &mut [u8]) -> Outcome
+pub fn update_seed(
+    state: Fortuna,
+    list: &mut [Quota],
+    clock: u32,
+    seed: &mut [u8],
+) -> Outcome<Fortuna>
     ensures { MetersBytes state list.old (update clock seed.old) result list.new seed.new }
 {
-    let fault = quotas::check(list);
-    let o = gated_update(state, fault, clock, seed);
-    quotas::clear_after(list, o.emptied);
-    o
+    let outcome = match gate(list, pools::update_input(seed)) {
+        Ok(()) => state.update_seed(clock, seed),
+        Err(refusal) => refused(state, refusal),
+    };
+    quotas::clear_after(list, outcome.emptied);
+    outcome
 }
 
 // A seed write.
-pub fn write_seed(state: Fortuna, list: &mut [Quota], clock: u32, seed: &mut [u8]) -> Outcome
+pub fn write_seed(
+    state: Fortuna,
+    list: &mut [Quota],
+    clock: u32,
+    seed: &mut [u8],
+) -> Outcome<Fortuna>
     ensures { MetersBytes state list.old (write clock seed.old) result list.new seed.new }
 {
-    let fault = quotas::check(list);
-    let o = gated_write(state, fault, clock, seed);
-    quotas::clear_after(list, o.emptied);
-    o
+    let outcome = match gate(list, pools::seed_input(seed)) {
+        Ok(()) => state.write_seed(clock, seed),
+        Err(refusal) => refused(state, refusal),
+    };
+    quotas::clear_after(list, outcome.emptied);
+    outcome
 }
 
 // A shuffle.
-pub fn shuffle(state: Fortuna, list: &mut [Quota], clock: u32, numbers: &mut [u16]) -> Outcome
+pub fn shuffle(
+    state: Fortuna,
+    list: &mut [Quota],
+    clock: u32,
+    numbers: &mut [u16],
+) -> Outcome<Fortuna>
     ensures { MetersBytes state list.old (shuffle clock numbers.old) result list.new numbers.new }
 {
-    let fault = quotas::check(list);
-    let o = gated_shuffle(state, fault, clock, numbers);
-    quotas::clear_after(list, o.emptied);
-    o
+    let outcome = match gate(list, pools::list_input(numbers)) {
+        Ok(()) => draws::shuffle(state, clock, numbers),
+        Err(refusal) => refused(state, refusal),
+    };
+    quotas::clear_after(list, outcome.emptied);
+    outcome
 }
 
 // A draw.
 pub fn random_below(state: Fortuna, list: &mut [Quota], clock: u32, n: u64, d: u32) -> Draw
     ensures { MetersValue state list.old (draw clock n d) result list.new }
 {
-    let fault = quotas::check(list);
-    let o = gated_draw(state, fault, clock, n, d);
-    quotas::clear_after(list, o.emptied);
-    o
+    let draw = match gate(list, pools::draw_input(n, d)) {
+        Ok(()) => draws::random_below(state, clock, n, d),
+        Err(refusal) => Draw {
+            answer: Err(refusal),
+            emptied: 0,
+            next: state,
+        },
+    };
+    quotas::clear_after(list, draw.emptied);
+    draw
 }

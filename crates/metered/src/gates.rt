@@ -1,85 +1,73 @@
-// A call behind the check of its list: its own input numbers come before 37, its state numbers after.
-ghost use Rattle.std.specs.Prelude.{◌≡◌};
-ghost use Rattle.pools.specs.Refusals.{and_then};
-ghost use Rattle.pools.specs.Calls.{request, update, write, draw, shuffle};
-ghost use Rattle.pools.specs.Promises.{number, GivesBytes, GivesValue};
-ghost use Rattle.metered.specs.Metering.{gated_step};
+// What a list says of a call of either scheduler: 37 for a call that is no event; 37, 38 or 39 for an event, which is charged where it is
+// accepted. A call's own input numbers come before these, its state numbers after.
+ghost use Rattle.std.specs.Prelude.{◌≡◌, Err};
+ghost use Rattle.pools.specs.Promises.{number};
+ghost use Rattle.quotas.specs.Records.{quotas_number};
+ghost use Rattle.quotas.specs.Charges.{charge_number, charge_list};
+ghost use Rattle.metered.specs.Metering.{gate_number, known_of, cost_of};
 
-use draws::Draw;
-use pools::{Answer, Fortuna, Outcome};
+use laws::{Numbered, number_of};
+use pools::{Outcome, Refusal};
+use quotas::Quota;
 
-// The answer to a call whose list is malformed, from the answer by its input alone.
-pub(crate) fn refusal(input: Answer) -> Answer
-    ensures { number result ≡ and_then (number input) 37 }
+// What refuses a call because its list is malformed: the answer by its input alone, or 37.
+pub(crate) fn gate(list: &[Quota], input: Result<(), Refusal>) -> Result<(), Refusal>
+    ensures { number result ≡ gate_number (quotas_number list.now) (number input) }
 {
-    if input.is_done() {
-        return Answer::QuotasMalformed;
+    let checked = quotas::check(list);
+    if checked.is_ok() {
+        checked
+    } else {
+        input.and(checked)
     }
-    input
 }
 
-// Such a call leaves the state as it was.
-fn refused(state: Fortuna, input: Answer) -> Outcome
-    ensures { (number result.answer ≡ and_then (number input) 37) × (result.emptied ≡ 0) × (result.next ≡ state) }
+// A refused call leaves the state as it was.
+pub(crate) fn refused<S>(state: S, refusal: Refusal) -> Outcome<S>
+    ensures { (result.answer ≡ Err refusal) × (result.emptied ≡ 0) × (result.next ≡ state) }
 {
     Outcome {
-        answer: refusal(input),
+        answer: Err(refusal),
         emptied: 0,
         next: state,
     }
 }
 
-// A request, where the check of its list gave the fault: 0 or 37.
-pub(crate) fn gated_request(state: Fortuna, fault: u32, clock: u32, out: &mut [u8]) -> Outcome
-    ensures { GivesBytes (gated_step fault state (request clock out.old)) result out.new }
+// The least number of a refusal by the state: the input's numbers of an event are below it.
+const FIRST_BY_STATE: u32 = 21;
+
+// An event's answer without 38 and 39: its own where its input refuses it, else what refuses the list, else its own.
+fn known_answer(own: Result<(), Refusal>, checked: Result<(), Refusal>) -> Result<(), Refusal>
+    ensures { number result ≡ known_of (number own) (number checked) }
 {
-    if fault != 0 {
-        return refused(state, pools::request_input(out.len()));
+    match own {
+        Err(refusal) if refusal.number() < FIRST_BY_STATE => own,
+        _ => checked.and(own),
     }
-    state.random_data(clock, out)
 }
 
-// A seed update, likewise.
-pub(crate) fn gated_update(state: Fortuna, fault: u32, clock: u32, seed: &mut [u8]) -> Outcome
-    ensures { GivesBytes (gated_step fault state (update clock seed.old)) result seed.new }
+// What n bytes of data cost. More than an event may have cost nothing: it is refused.
+#[tactic(auto, unfolding(crate::specs::Metering::cost_of, pools::specs::Events::max_data, pools::specs::Events::gain, pools::specs::Events::header_length))]
+fn cost_of(n: usize) -> u32
+    ensures { result ≡ cost_of n }
 {
-    if fault != 0 {
-        return refused(state, pools::update_input(seed));
-    }
-    state.update_seed(clock, seed)
+    if n > 32 { 0 } else { (3 + n) as u32 }
 }
 
-// A seed write, likewise.
-pub(crate) fn gated_write(state: Fortuna, fault: u32, clock: u32, seed: &mut [u8]) -> Outcome
-    ensures { GivesBytes (gated_step fault state (write clock seed.old)) result seed.new }
+// The answer to an event of n bytes of data, which has its own without a list. The list is charged where it is accepted.
+pub(crate) fn charge(
+    list: &mut [Quota],
+    source: u32,
+    n: usize,
+    own: Result<(), Refusal>,
+) -> Result<(), Refusal>
+    ensures answer { number result ≡ charge_number list.old source (cost_of n) (known_of (number own) (quotas_number list.old)) }
+    ensures list { list.new ≡ charge_list list.old source (cost_of n) (known_of (number own) (quotas_number list.old)) }
 {
-    if fault != 0 {
-        return refused(state, pools::seed_input(seed));
+    let known = known_answer(own, quotas::check(list));
+    match quotas::charge(list, source, cost_of(n), number_of(known)) {
+        38 => Err(Refusal::SourceNotListed),
+        39 => Err(Refusal::OverAllowance),
+        _ => known,
     }
-    state.write_seed(clock, seed)
-}
-
-// A shuffle, likewise.
-pub(crate) fn gated_shuffle(state: Fortuna, fault: u32, clock: u32, numbers: &mut [u16]) -> Outcome
-    ensures { GivesBytes (gated_step fault state (shuffle clock numbers.old)) result numbers.new }
-{
-    if fault != 0 {
-        return refused(state, pools::list_input(numbers));
-    }
-    draws::shuffle(state, clock, numbers)
-}
-
-// A draw, likewise.
-pub(crate) fn gated_draw(state: Fortuna, fault: u32, clock: u32, n: u64, d: u32) -> Draw
-    ensures { GivesValue (gated_step fault state (draw clock n d)) result.answer result.emptied result.value result.next }
-{
-    if fault != 0 {
-        return Draw {
-            answer: refusal(pools::draw_input(n, d)),
-            emptied: 0,
-            value: 0,
-            next: state,
-        };
-    }
-    draws::random_below(state, clock, n, d)
 }

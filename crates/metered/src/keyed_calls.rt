@@ -1,31 +1,53 @@
-// Requests and seed calls of the keyed scheduler with a list of quotas: 37 by the list. They empty no pool, so they leave every record.
-ghost use Rattle.keyed.specs.Calls.{request, update, write};
-ghost use Rattle.metered.specs.KeyedMetering.{KeyedMetersBytes};
+// The calls of the keyed scheduler with a list of quotas: 37, and for an event 38 and 39, by the list. Requests and seed calls empty no pool,
+// so they leave every record. An event's source is charged where the event is accepted, and nothing is spent where its step emptied a pool,
+// its own bytes included.
+ghost use Rattle.keyed.specs.Calls.{event, request, update, write};
+ghost use Rattle.metered.specs.KeyedMetering.{KeyedMeters, KeyedMetersBytes};
 
-use crate::keyed_gates::{gated_keyed_request, gated_keyed_update, gated_keyed_write};
-use keyed::{Keyed, Outcome};
+use crate::gates::{charge, gate, refused};
+use keyed::Keyed;
+use pools::Outcome;
 use quotas::Quota;
 
+// An event.
+pub fn keyed_add_event(state: Keyed, list: &mut [Quota], source: u32, data: &[u8]) -> Outcome<Keyed>
+    ensures { KeyedMeters state list.old (event source «data».now) result list.new }
+{
+    let own = state.add_event(source, data);
+    let outcome = match charge(list, source, data.len(), own.answer) {
+        Ok(()) => own,
+        Err(refusal) => refused(state, refusal),
+    };
+    quotas::clear_after(list, outcome.emptied);
+    outcome
+}
+
 // A request.
-pub fn keyed_random_data(state: Keyed, list: &[Quota], out: &mut [u8]) -> Outcome
+pub fn keyed_random_data(state: Keyed, list: &[Quota], out: &mut [u8]) -> Outcome<Keyed>
     ensures { KeyedMetersBytes state list.now (request out.old) result out.new }
 {
-    let fault = quotas::check(list);
-    gated_keyed_request(state, fault, out)
+    match gate(list, pools::request_input(out.len())) {
+        Ok(()) => state.random_data(out),
+        Err(refusal) => refused(state, refusal),
+    }
 }
 
 // A seed update.
-pub fn keyed_update_seed(state: Keyed, list: &[Quota], seed: &mut [u8]) -> Outcome
+pub fn keyed_update_seed(state: Keyed, list: &[Quota], seed: &mut [u8]) -> Outcome<Keyed>
     ensures { KeyedMetersBytes state list.now (update seed.old) result seed.new }
 {
-    let fault = quotas::check(list);
-    gated_keyed_update(state, fault, seed)
+    match gate(list, pools::update_input(seed)) {
+        Ok(()) => state.update_seed(seed),
+        Err(refusal) => refused(state, refusal),
+    }
 }
 
 // A seed write.
-pub fn keyed_write_seed(state: Keyed, list: &[Quota], seed: &mut [u8]) -> Outcome
+pub fn keyed_write_seed(state: Keyed, list: &[Quota], seed: &mut [u8]) -> Outcome<Keyed>
     ensures { KeyedMetersBytes state list.now (write seed.old) result seed.new }
 {
-    let fault = quotas::check(list);
-    gated_keyed_write(state, fault, seed)
+    match gate(list, pools::seed_input(seed)) {
+        Ok(()) => state.write_seed(seed),
+        Err(refusal) => refused(state, refusal),
+    }
 }

@@ -6,10 +6,7 @@ mod calls;
 mod events;
 mod gates;
 mod keyed_calls;
-mod keyed_events;
-mod keyed_gates;
 
 pub use calls::{random_below, random_data, shuffle, update_seed, write_seed};
 pub use events::{add_event, gain_of};
-pub use keyed_calls::{keyed_random_data, keyed_update_seed, keyed_write_seed};
-pub use keyed_events::keyed_add_event;
+pub use keyed_calls::{keyed_add_event, keyed_random_data, keyed_update_seed, keyed_write_seed};

@@ -51,7 +51,7 @@ request-short m c due n e = request-input n (both-passed (request_input n) (outp
 -- ---- a seed call
 
 -- whose number is 15 at another size
-sized : (seed : List ℕ) (n : ℕ) → (eqb (length seed) seed_size ≡ false → n ≡ 15) → n ≡ 0 → length seed ≡ seed_size
+pub sized : (seed : List ℕ) (n : ℕ) → (eqb (length seed) seed_size ≡ false → n ≡ 15) → n ≡ 0 → length seed ≡ seed_size
 sized seed n other e =
     by-test (eqb (length seed) seed_size) (length seed ≡ seed_size)
     (eqb-true (length seed) seed_size)

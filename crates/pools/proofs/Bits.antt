@@ -1,14 +1,15 @@
 -- Tests without a branch: bits gathered by or, differences by xor, and what they say of lists.
 -- Assumes nothing.
-use Rattle.std.proofs.Common.{◌≡◌, ℕ, zero, suc, ◌+◌, ◌-◌, ◌*◌, ◌<◌, ◌≤◌, max, Bool, true, false, ◌&&◌, eqb, ltb, List, [], length, get_or, drop, replicate, sym, refl, ap, ◌∙◌, add-one, arith, drop_of_length-le, drop-cons, get_or-append-add, ltb-false, ltb-true, eq-eqb, ne_eqb, eqb-true}
+use Rattle.std.proofs.Common.{◌≡◌, ℕ, zero, suc, ◌+◌, ◌-◌, ◌*◌, ◌<◌, ◌≤◌, max, Bool, true, false, ◌&&◌, eqb, ltb, List, [], ◌∷◌, ◌++◌, length, get_or, drop, replicate, mod-eq_of_lt, sym, refl, ap, ◌∙◌, add-one, arith, drop_of_length-le, drop-cons, get_or-append-add, ltb-false, ltb-true, eq-eqb, ne_eqb, eqb-true}
 use mathlib.Core.Bool.{and-true, and_assoc}
-use native.Mathlib.Nat.{max-eq_left, max-eq_right, zero-max}
-use lib.Bits.{bit_and, bit_or, bit_xor, or_zero_l, or_add_and, and_le_l, and_le_r, xor_self, xor_add_and}
+use native.Mathlib.Nat.{max-eq_left, max-eq_right}
+use lib.Bits.{bit_and, bit_or, bit_xor, and_zero_r, and_mask, or_zero_r, or_zero_l, or_add_and, and_le_l, and_le_r, xor_self, xor_add_and}
 use lib.Dec.{eqb-suc-zero}
+use lib.Pointwise.{pointwise}
+use Rattle.std.specs.List.{fold}
 use lib.ListN.{get_or-replicate, length-replicate, get_or-append}
 use borrow.Author.Tests.{eqb-false}
 use Rattle.laws.specs.Lists.{all_zero, same_list}
-use Rattle.pools.specs.Masks.{mask_bytes}
 
 -- bits gathered are none exactly if both were
 or-none : (a b : ℕ) → eqb (bit_or a b) 0 ≡ (eqb a 0 && eqb b 0)
@@ -39,9 +40,6 @@ xor-none a b = go (eqb a b) refl
 abbrev pub Found : ℕ → ℕ → List ℕ → ℕ → Type 0
 Found d at t i = (eqb d 0 && all_zero (drop (max i at) t)) ≡ all_zero (drop at t)
 
-pub found_none : (at : ℕ) (t : List ℕ) → Found 0 at t 0
-found_none at t = rw (zero-max at) refl
-
 -- a byte before `at` is left out
 found_below : (d at i : ℕ) (t : List ℕ) → i < at → Found d at t i → Found d at t (i + 1)
 found_below d at i t h f =
@@ -58,31 +56,30 @@ found-more d at i t h l f =
     let g : (eqb d 0 && (eqb (get_or t i 0) 0 && all_zero (drop (i + 1) t))) ≡ all_zero (drop at t) = rw (add-one i) (rw (e, drop-cons t i 0 l) at f) in
     rw e' (ap (λ (b : Bool). b && all_zero (drop (i + 1) t)) (or-none d (get_or t i 0)) ∙ and_assoc (eqb d 0) (eqb (get_or t i 0) 0) (all_zero (drop (i + 1) t)) ∙ g)
 
+-- the code's table: 63 bytes that keep no bit, then 64 that keep all
+abbrev pub mask_bytes : List ℕ
+mask_bytes = replicate 63 0 ++ replicate 64 255
+
 -- the masks before and after the seam
 mask-none : (j : ℕ) → j < 63 → get_or mask_bytes j 0 ≡ 0
-unfolding mask_bytes
 mask-none j h = get_or-append (replicate 63 0) (replicate 64 255) 0 j (rw length-replicate h) ∙ get_or-replicate 63 j 0 0 h
 
 mask-all : (j : ℕ) → j < 64 → get_or mask_bytes (63 + j) 0 ≡ 255
-unfolding mask_bytes
 mask-all j h = get_or-append-add (replicate 63 0) (replicate 64 255) j 0 ∙ get_or-replicate 64 j 255 0 h
 
--- one turn: r is d with the bits of byte i that the mask keeps
-pub found_turn : (r d at i : ℕ) (t m : List ℕ) → m ≡ mask_bytes → at < 64 → i < 64 → length t ≡ 64
-    → (get_or m (63 - at + i) 0 ≡ 0 → r ≡ d) × (get_or m (63 - at + i) 0 ≡ 255 → r ≡ bit_or d (get_or t i 0))
-    → Found d at t i → Found r at t (i + 1)
-found_turn r d at i t m e h l n (low, high) f = go (ltb i at) refl
+-- one turn: the bits of byte i that the mask keeps are gathered
+pub found_turn : (d at i : ℕ) (t m : List ℕ) → m ≡ mask_bytes → at < 64 → i < 64 → length t ≡ 64 → get_or t i 0 < 256
+    → Found d at t i → Found (bit_or d (bit_and (get_or t i 0) (get_or m (63 - at + i) 0))) at t (i + 1)
+found_turn d at i t m e h l n byte f = rw e (go (ltb i at) refl)
   where
-    go : (b : Bool) → ltb i at ≡ b → Found r at t (i + 1)
+    go : (b : Bool) → ltb i at ≡ b → Found (bit_or d (bit_and (get_or t i 0) (get_or mask_bytes (63 - at + i) 0))) at t (i + 1)
     go true b =
         let k : i < at = ltb-true i at b in
-        let z : get_or m (63 - at + i) 0 ≡ 0 = rw e (mask-none (63 - at + i) (omega arith)) in
-        rw (low z) (found_below d at i t k f)
+        rw (mask-none (63 - at + i) (omega arith), and_zero_r (get_or t i 0), or_zero_r d) (found_below d at i t k f)
     go false b =
         let k : at ≤ i = ltb-false i at b in
         let p : 63 - at + i ≡ 63 + (i - at) = omega arith in
-        let z : get_or m (63 - at + i) 0 ≡ 255 = rw (e, p) (mask-all (i - at) (omega arith)) in
-        rw (high z) (found-more d at i t k (omega arith) f)
+        rw (p, mask-all (i - at) (omega arith), and_mask (get_or t i 0) 8, mod-eq_of_lt byte) (found-more d at i t k (omega arith) f)
 
 -- t is at its end
 pub found_all : (d at i : ℕ) (t : List ℕ) → at ≤ length t → length t ≤ i → Found d at t i → eqb d 0 ≡ all_zero (drop at t)
@@ -92,24 +89,21 @@ found_all d at i t h l f =
     let n : drop i t ≡ [] = drop_of_length-le t {i = i} l in
     sym (and-true (eqb d 0)) ∙ rw (e, n) at f
 
--- ---- two lists
+-- ---- a list of one element, repeated
 
--- d holds the differences of the first i elements
-abbrev pub Compared : ℕ → List ℕ → List ℕ → ℕ → Type 0
-Compared d a b i = (eqb d 0 && same_list (drop i a) (drop i b)) ≡ same_list a b
-
-pub compared-more : (d i : ℕ) (a b : List ℕ) → i < length a → i < length b → Compared d a b i
-    → Compared (bit_or d (bit_xor (get_or a i 0) (get_or b i 0))) a b (i + 1)
+-- the differences from b are gathered behind d
+pub gathered : (d b : ℕ) (l : List ℕ) → eqb (fold (λ x y. bit_or x (bit_xor y b)) d l) 0 ≡ (eqb d 0 && same_list l (replicate (length l) b))
 unfolding same_list
-compared-more d i a b l m f =
-    let x = get_or a i 0 in
-    let y = get_or b i 0 in
-    let g : (eqb d 0 && (eqb x y && same_list (drop (i + 1) a) (drop (i + 1) b))) ≡ same_list a b =
-    rw (add-one i) (rw (drop-cons a i 0 l, drop-cons b i 0 m) at f) in
-    let s : eqb (bit_or d (bit_xor x y)) 0 ≡ (eqb d 0 && eqb x y) = or-none d (bit_xor x y) ∙ ap (λ (t : Bool). eqb d 0 && t) (xor-none x y) in
-    ap (λ (t : Bool). t && same_list (drop (i + 1) a) (drop (i + 1) b)) s ∙ and_assoc (eqb d 0) (eqb x y) (same_list (drop (i + 1) a) (drop (i + 1) b)) ∙ g
+gathered d b [] = sym (and-true (eqb d 0))
+gathered d b (x ∷ l) =
+    gathered (bit_or d (bit_xor x b)) b l
+    ∙ ap (λ (t : Bool). t && same_list l (replicate (length l) b)) (or-none d (bit_xor x b) ∙ ap (λ (t : Bool). eqb d 0 && t) (xor-none x b))
+    ∙ and_assoc (eqb d 0) (eqb x b) (same_list l (replicate (length l) b))
 
--- both are at their end
-pub compared-all : (d i : ℕ) (a b : List ℕ) → length a ≤ i → length b ≤ i → Compared d a b i → eqb d 0 ≡ same_list a b
+-- the library's comparison of two lists
+pub compared : (a b : List ℕ) → pointwise eqb a b ≡ same_list a b
 unfolding same_list
-compared-all d i a b l m f = sym (and-true (eqb d 0)) ∙ rw (drop_of_length-le a {i = i} l, drop_of_length-le b {i = i} m) at f
+compared [] [] = refl
+compared [] (y ∷ b) = refl
+compared (x ∷ a) [] = refl
+compared (x ∷ a) (y ∷ b) = ap (λ (t : Bool). eqb x y && t) (compared a b)

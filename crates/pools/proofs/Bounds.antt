@@ -1,6 +1,7 @@
 -- Bounds of what a call answers: its number is one of a list, of two digits, and no more pools are emptied than there are.
 -- Assumes nothing.
 use Rattle.std.proofs.Common.{◌≡◌, ℕ, zero, suc, ◌+◌, ◌-◌, ◌<◌, ◌≤◌, Bool, true, false, cond, eqb, ltb, List, [], ◌∷◌, length, zero-le, arith, lit≤, length-append, ltb-false}
+use Rattle.std.specs.Prelude.{Result, Ok, Err}
 use Rattle.laws.specs.Lists.{count_of}
 use Rattle.laws.specs.Refusals.{refuse}
 use Rattle.laws.proofs.Cases.{split}
@@ -13,8 +14,8 @@ use Rattle.pools.specs.Draws.{Drawn, leaving, tries, shuffle_from, shuffled, try
 use Rattle.pools.specs.Calls.{Call, event, request, update, write, draw, shuffle, input_buffer, call_number, call_effect, call_found, effect_of, outcome, step}
 use Rattle.pools.specs.Promises.{number, call_numbers, CallNumbersLaw, NoneDrawnLaw}
 use Rattle.pools.specs.declared.Fortuna.{Fortuna}
-use Rattle.pools.specs.declared.answer.Answer.{Answer}
-use Rattle.pools.specs.declared.answer.Answer.TheVariants.{Done, SourceOutOfRange, PoolOutOfRange, DataLength, RequestTooLong, SeedSize, Malformed, PoolFull, Unseeded, CounterSpent, SlotRange, TryRange, NoneDrawn, BlankSeed, QuotasMalformed, SourceNotListed, OverAllowance, StepsSpent}
+use Rattle.pools.specs.declared.refusal.Refusal.{Refusal}
+use Rattle.pools.specs.declared.refusal.Refusal.TheVariants.{SourceOutOfRange, PoolOutOfRange, DataLength, RequestTooLong, SeedSize, Malformed, PoolFull, Unseeded, CounterSpent, SlotRange, TryRange, NoneDrawn, BlankSeed, QuotasMalformed, SourceNotListed, OverAllowance, StepsSpent}
 use Rattle.pools.proofs.Chains.{then-holds}
 use Rattle.pools.proofs.OneReseed.{first-try, first-shuffle}
 
@@ -73,26 +74,25 @@ step-number-small s c =
     (split (λ (k : ℕ). k ≤ 99) (call_found s c) (λ t. zero-le) (λ t. lit≤ tt))
 
 -- an answer's number
-pub answer-small : (a : Answer) → number a < 100
-unfolding number
-answer-small Done = lit≤ tt
-answer-small SourceOutOfRange = lit≤ tt
-answer-small PoolOutOfRange = lit≤ tt
-answer-small DataLength = lit≤ tt
-answer-small RequestTooLong = lit≤ tt
-answer-small SeedSize = lit≤ tt
-answer-small Malformed = lit≤ tt
-answer-small PoolFull = lit≤ tt
-answer-small Unseeded = lit≤ tt
-answer-small CounterSpent = lit≤ tt
-answer-small SlotRange = lit≤ tt
-answer-small TryRange = lit≤ tt
-answer-small NoneDrawn = lit≤ tt
-answer-small BlankSeed = lit≤ tt
-answer-small QuotasMalformed = lit≤ tt
-answer-small SourceNotListed = lit≤ tt
-answer-small OverAllowance = lit≤ tt
-answer-small StepsSpent = lit≤ tt
+pub answer-small : {T : Type 0} (a : Result T Refusal) → number a < 100
+answer-small (Ok x) = lit≤ tt
+answer-small (Err SourceOutOfRange) = lit≤ tt
+answer-small (Err PoolOutOfRange) = lit≤ tt
+answer-small (Err DataLength) = lit≤ tt
+answer-small (Err RequestTooLong) = lit≤ tt
+answer-small (Err SeedSize) = lit≤ tt
+answer-small (Err Malformed) = lit≤ tt
+answer-small (Err PoolFull) = lit≤ tt
+answer-small (Err Unseeded) = lit≤ tt
+answer-small (Err CounterSpent) = lit≤ tt
+answer-small (Err SlotRange) = lit≤ tt
+answer-small (Err TryRange) = lit≤ tt
+answer-small (Err NoneDrawn) = lit≤ tt
+answer-small (Err BlankSeed) = lit≤ tt
+answer-small (Err QuotasMalformed) = lit≤ tt
+answer-small (Err SourceNotListed) = lit≤ tt
+answer-small (Err OverAllowance) = lit≤ tt
+answer-small (Err StepsSpent) = lit≤ tt
 
 -- ---- pools emptied
 

@@ -1,7 +1,7 @@
 -- Two chains of refusals, one after the other, and the two chains of each call.
 -- Assumes nothing.
-use Rattle.std.proofs.Common.{◌≡◌, ℕ, Bool, true, false, cond, not, eqb, ◌≢◌, sym, refl, ◌∙◌, eq-eqb, ne_eqb, eqb-true}
-use borrow.Author.Tests.{eqb-false, not-true, not-false}
+use Rattle.std.proofs.Common.{◌≡◌, ℕ, cond, eqb, ◌≢◌, sym, refl, eq-eqb, ne_eqb, eqb-true}
+use borrow.Author.Tests.{eqb-false}
 use Rattle.laws.proofs.Cases.{split, cond-cong, by-test}
 use Rattle.pools.specs.declared.Fortuna.{Fortuna}
 use Rattle.pools.specs.Refusals.{and_then, event_number, request_number, write_number, update_number, draw_number, shuffle_number}
@@ -48,21 +48,6 @@ then-absorbed m l n =
 pub then-holds : (P : ℕ → Type 0) (first second : ℕ) → P first → P second → P (and_then first second)
 unfolding and_then
 then-holds P first second h k = split P (eqb first 0) (λ t. k) (λ t. h)
-
--- ---- k is the number that the code came to by the first chain, d its test for none
-
-module _ (first k : ℕ) (d : Bool) (numbered : k ≡ first) (tested : d ≡ eqb k 0) where
-  pub none_first : not d ≡ false → first ≡ 0
-  none_first t = sym numbered ∙ eqb-true k 0 (sym tested ∙ not-false d t)
-
-  -- it has one, which counts; or none, and the second chain counts
-  pub by_first : (second : ℕ) → not d ≡ true → k ≡ and_then first second
-  by_first second t =
-      let some : k ≢ 0 = eqb-false k 0 (sym tested ∙ not-true d t) in
-      numbered ∙ sym (then-first first second (λ e. some (numbered ∙ e)))
-
-  pub by-second : (n second : ℕ) → not d ≡ false → n ≡ second → n ≡ and_then first second
-  by-second n second t e = e ∙ sym (then-second first second (none_first t))
 
 -- ---- a call's number is by its input, then by its state
 

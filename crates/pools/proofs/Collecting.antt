@@ -1,28 +1,31 @@
 -- The loop that takes the digests of the pools that a reseed uses, and empties these pools.
 -- Assumes nothing.
-use Rattle.std.proofs.Common.{◌≡◌, ℕ, ◌+◌, ◌*◌, ◌<◌, ◌≤◌, true, false, cond, ltb, ◌≢◌, List, [], ◌++◌, length, take, drop, set, sym, refl, ap, ◌∙◌, ⊎_elim, not-suc-le-zero, eq-or-lt_of_le, add-one, arith, length-append, length-drop, length-take, length-take-le, take_all, take_at, ext_get_or, ltb-false, ltb-true, le-ltb, lt-ltb}
+use Rattle.std.proofs.Common.{◌≡◌, ℕ, ◌+◌, ◌*◌, ◌<◌, ◌≤◌, true, false, cond, ltb, ◌≢◌, List, [], ◌++◌, length, take, drop, set, sym, refl, ap, ◌∙◌, ⊎_elim, eq-or-lt_of_le, add-one, arith, length-append, length-drop, length-take, length-take-le, take_at, ext_get_or, ltb-false, ltb-true, le-ltb, lt-ltb}
 use lib.Seq.{take-append-add}
-use Rattle.laws.specs.Lists.{tabulate, overwrite, joined}
+use Rattle.laws.specs.Lists.{tabulate, joined}
 use Rattle.laws.proofs.Cases.{by-test}
-use Rattle.laws.proofs.Copy.{overwrite-cut}
 use Rattle.laws.proofs.Lists.{set-tabulate, joined-append, joined-one}
 use Rattle.laws.proofs.Tabulate.{length-tabulate, get_d_tabulate, tabulate-ext}
-use Rattle.hash.specs.ShaD.{empty_pool, pool_digest}
+use Rattle.std.specs.Prelude.{Result, Ok}
+use Rattle.hash.specs.ShaD.{max_pool_length, empty_pool, pool_digest}
+use Rattle.hash.specs.Answers.{within}
+use Rattle.hash.specs.declared.answer.TooLong.{TooLong}
 use Rattle.hash.specs.declared.hasher.Hasher.{Hasher}
 use Rattle.hash.proofs.Laws.{length-pool-digest}
 use Rattle.pools.specs.Events.{pool_count}
 use Rattle.pools.specs.Schedule.{used, used_below, used_pools}
+use Rattle.pools.specs.Pool.{malformed_pool}
+use Rattle.pools.specs.State.{any_pool}
 use Rattle.pools.specs.Collected.{nth, Collects}
-use Rattle.pools.proofs.Prefix.{used-before, all-used, rest-unused}
+use Rattle.pools.proofs.PoolTests.{digest-of-pool}
+use Rattle.pools.proofs.Prefix.{all-used, rest-unused}
 
 -- pool i once the first k are emptied
 abbrev pub emptied : List Hasher → ℕ → ℕ → Hasher
 emptied pools k i = cond (ltb i k) empty_pool (nth pools i)
 
--- the first k pools are used and taken: `rest` are the pools now, and the digests stand in front of `seed`
+-- the first k pools are taken: `rest` are the pools now, and the digests stand in front of `seed`
 pub record Taken (pools : List Hasher) (n k : ℕ) (rest : List Hasher) (seed : List ℕ) : Type 0 where
-  pub small : k ≤ 32
-  pub all : (i : ℕ) → i < k → used n i ≡ true
   pub left : rest ≡ tabulate (emptied pools k) 32
   pub front : take (32 * k) seed ≡ joined (λ i. pool_digest (nth pools i)) (used_below n k)
   pub size : length seed ≡ 1024
@@ -39,7 +42,24 @@ none-emptied pools e =
 pub taken_none : (pools : List Hasher) (n : ℕ) (seed : List ℕ) → length pools ≡ 32 → length seed ≡ 1024 → Taken pools n 0 pools seed
 unfolding used_below joined
 taken_none pools n seed e size =
-    record { small = omega arith; all = λ i h. absurd (not-suc-le-zero h); left = none-emptied pools e; front = refl; size = size }
+    record { left = none-emptied pools e; front = refl; size = size }
+
+-- pool k is still there, so its digest comes
+pub next-digest : (pools : List Hasher) (n k : ℕ) (rest : List Hasher) (seed : List ℕ) (r : Result (List ℕ) TooLong)
+    → Taken pools n k rest seed
+    → k < 32
+    → length pools ≡ 32
+    → any_pool malformed_pool pools ≡ false
+    → r ≡ within max_pool_length (nth rest k).length (pool_digest (nth rest k))
+    → r ≡ Ok (pool_digest (nth pools k))
+unfolding nth
+next-digest pools n k rest seed r taken h full formed e =
+    digest-of-pool pools k r formed (omega arith) (rw there at e)
+  where
+    there : nth rest k ≡ nth pools k
+    there =
+        let d : Hasher = record { chain = []; tail = []; length = 0 } in
+        rw taken.left (get_d_tabulate (emptied pools k) d 32 k h ∙ rw (le-ltb k k (omega arith)))
 
 -- a bound that grows by one lets in that number only
 ltb-other : (m k : ℕ) → m ≢ k → ltb m k ≡ ltb m (k + 1)
@@ -65,48 +85,38 @@ front-more s d a h full =
     (rw l at (take-append-add (take a s) (d ++ drop 32 (drop a s)) 32)) ∙ rw (take_at d (drop 32 (drop a s)) 32 full)
 
 -- the next pool is used: its digest d goes over a part of the string, and the pool is replaced by an empty one
-pub taken_more : (pools : List Hasher) (n k w : ℕ) (rest : List Hasher) (seed part d : List ℕ) (empty : Hasher)
+pub taken_more : (pools : List Hasher) (n k w : ℕ) (rest : List Hasher) (seed d : List ℕ) (empty : Hasher)
     → Taken pools n k rest seed
     → k < 32
     → used n k ≡ true
     → empty ≡ empty_pool
     → d ≡ pool_digest (nth pools k)
     → w ≡ 32
-    → part ≡ overwrite (take w (drop (32 * k) seed)) d
-    → Taken pools n (k + 1) (set rest k empty) (take (32 * k) seed ++ (part ++ drop w (drop (32 * k) seed)))
+    → Taken pools n (k + 1) (set rest k empty) (take (32 * k) seed ++ (d ++ drop w (drop (32 * k) seed)))
 unfolding used_below
-taken_more pools n k w rest seed part d empty taken h u v e wide over =
+taken_more pools n k w rest seed d empty taken h u v e wide =
     let full : length d ≡ 32 = ap length e ∙ length-pool-digest (nth pools k) in
     let size : length seed ≡ 1024 = taken.size in
-    let room : length (take w (drop (32 * k) seed)) ≡ 32 = rw wide (length-take-le 32 (drop (32 * k) seed) (rw length-drop (omega arith))) in
-    let same : part ≡ d = over ∙ overwrite-cut (take w (drop (32 * k) seed)) d (omega arith) ∙ rw room (take_all 32 d (omega arith)) in
     let next : 32 * (k + 1) ≡ 32 * k + 32 = omega arith in
-    rw (same, wide, v)
+    rw (wide, v)
     (record {
-      small = omega arith;
-      all = λ i l. used-before n k i u (omega arith);
       left = ap (λ (l : List Hasher). set l k empty_pool) taken.left ∙ one-emptied pools k h;
       front = rw next (front-more seed d (32 * k) (omega arith) full ∙ rw (add-one k, u, joined-append, joined-one, e, taken.front));
       size = simp (length-append, length-take, length-drop) (omega arith);
     })
 
--- the pools from k on are not used, so those that are used are all taken
+-- all pools that are used are the first ones, and they are taken
 pub taken-all : (pools : List Hasher) (n k : ℕ) (rest : List Hasher) (seed : List ℕ)
+    → k ≤ 32
+    → ((i : ℕ) → i < 32 → used n i ≡ ltb i k)
     → Taken pools n k rest seed
-    → ((i : ℕ) → k ≤ i → i < 32 → used n i ≡ false)
-    → Collects pools n (record { pools = rest; seed = seed; count = k })
+    → Collects pools n rest seed k
 unfolding used_pools pool_count
-taken-all pools n k rest seed taken none =
-    let few : used_below n 32 ≡ used_below n k = rest-unused n k 32 taken.small none in
+taken-all pools n k rest seed small first taken =
+    let few : used_below n 32 ≡ used_below n k = rest-unused n k 32 small (λ i a b. first i b ∙ le-ltb i k a) in
     record {
-      few = taken.small;
-      counted = sym (ap length few ∙ all-used n k taken.all);
-      left = taken.left ∙ tabulate-ext (emptied pools k) (λ i. cond (used n i) empty_pool (nth pools i)) 32 (λ i h. rw (same i h));
+      few = small;
+      counted = sym (ap length few ∙ all-used n k (λ i h. first i (omega arith) ∙ lt-ltb i k h));
+      emptied = taken.left ∙ tabulate-ext (emptied pools k) (λ i. cond (used n i) empty_pool (nth pools i)) 32 (λ i h. rw (first i h));
       front = rw few taken.front;
     }
-  where
-    same : (i : ℕ) → i < 32 → ltb i k ≡ used n i
-    same i h =
-        by-test (ltb i k) (ltb i k ≡ used n i)
-        (λ t. t ∙ sym (taken.all i (ltb-true i k t)))
-        (λ f. f ∙ sym (none i (ltb-false i k f) h))

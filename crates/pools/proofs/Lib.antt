@@ -3,6 +3,7 @@ pub mod Checks
 pub mod Room
 pub mod Chains
 pub mod Acceptance
+pub mod Asked
 pub mod Gains
 pub mod EventCalls
 pub mod Clock

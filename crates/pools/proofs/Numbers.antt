@@ -1,49 +1,59 @@
--- Different answers have different numbers.
+-- Different answers have different numbers, and 0 is that of a call that was done.
 -- Assumes nothing.
-use Rattle.std.proofs.Common.{◌≡◌, ℕ, cond, eqb, sym, refl, ap, ◌∙◌}
-use Rattle.pools.specs.Promises.{number, NumberInjective}
-use Rattle.pools.specs.declared.answer.Answer.{Answer}
-use Rattle.pools.specs.declared.answer.Answer.TheVariants.{Done, SourceOutOfRange, PoolOutOfRange, DataLength, RequestTooLong, SeedSize, Malformed, PoolFull, Unseeded, CounterSpent, SlotRange, TryRange, NoneDrawn, BlankSeed, QuotasMalformed, SourceNotListed, OverAllowance, StepsSpent}
+use Rattle.std.proofs.Common.{◌≡◌, ℕ, Bool, cond, eqb, sym, refl, ap, ◌∙◌}
+use Rattle.std.specs.Result.{is_ok}
+use Rattle.std.specs.Prelude.{Result, Ok, Err}
+use Rattle.laws.proofs.Refusals as Refusals
+use Rattle.pools.specs.Promises.{code, code-above-0, number, NumberInjective}
+use Rattle.pools.specs.declared.refusal.Refusal.{Refusal}
+use Rattle.pools.specs.declared.refusal.Refusal.TheVariants.{SourceOutOfRange, PoolOutOfRange, DataLength, RequestTooLong, SeedSize, Malformed, PoolFull, Unseeded, CounterSpent, SlotRange, TryRange, NoneDrawn, BlankSeed, QuotasMalformed, SourceNotListed, OverAllowance, StepsSpent}
 
 -- the answer that a number belongs to
-answer_of : ℕ → Answer
+answer_of : ℕ → Result Unit Refusal
 answer_of n =
-    cond (eqb n 0) Done
-    (cond (eqb n 11) SourceOutOfRange
-    (cond (eqb n 12) PoolOutOfRange
-    (cond (eqb n 13) DataLength
-    (cond (eqb n 14) RequestTooLong
-    (cond (eqb n 15) SeedSize
-    (cond (eqb n 21) Malformed
-    (cond (eqb n 22) PoolFull
-    (cond (eqb n 23) Unseeded
-    (cond (eqb n 24) CounterSpent
-    (cond (eqb n 31) SlotRange
-    (cond (eqb n 32) TryRange
-    (cond (eqb n 33) NoneDrawn
-    (cond (eqb n 36) BlankSeed
-    (cond (eqb n 37) QuotasMalformed (cond (eqb n 38) SourceNotListed (cond (eqb n 39) OverAllowance StepsSpent))))))))))))))))
+    cond (eqb n 0) (Ok tt)
+    (cond (eqb n 11) (Err SourceOutOfRange)
+    (cond (eqb n 12) (Err PoolOutOfRange)
+    (cond (eqb n 13) (Err DataLength)
+    (cond (eqb n 14) (Err RequestTooLong)
+    (cond (eqb n 15) (Err SeedSize)
+    (cond (eqb n 21) (Err Malformed)
+    (cond (eqb n 22) (Err PoolFull)
+    (cond (eqb n 23) (Err Unseeded)
+    (cond (eqb n 24) (Err CounterSpent)
+    (cond (eqb n 31) (Err SlotRange)
+    (cond (eqb n 32) (Err TryRange)
+    (cond (eqb n 33) (Err NoneDrawn)
+    (cond (eqb n 36) (Err BlankSeed)
+    (cond (eqb n 37) (Err QuotasMalformed)
+    (cond (eqb n 38) (Err SourceNotListed)
+    (cond (eqb n 39) (Err OverAllowance)
+    (Err StepsSpent)))))))))))))))))
 
-read_back : (a : Answer) → answer_of (number a) ≡ a
-unfolding answer_of number
-read_back Done = refl
-read_back SourceOutOfRange = refl
-read_back PoolOutOfRange = refl
-read_back DataLength = refl
-read_back RequestTooLong = refl
-read_back SeedSize = refl
-read_back Malformed = refl
-read_back PoolFull = refl
-read_back Unseeded = refl
-read_back CounterSpent = refl
-read_back SlotRange = refl
-read_back TryRange = refl
-read_back NoneDrawn = refl
-read_back BlankSeed = refl
-read_back QuotasMalformed = refl
-read_back SourceNotListed = refl
-read_back OverAllowance = refl
-read_back StepsSpent = refl
+read_back : (a : Result Unit Refusal) → answer_of (number a) ≡ a
+unfolding answer_of
+read_back (Ok tt) = refl
+read_back (Err SourceOutOfRange) = refl
+read_back (Err PoolOutOfRange) = refl
+read_back (Err DataLength) = refl
+read_back (Err RequestTooLong) = refl
+read_back (Err SeedSize) = refl
+read_back (Err Malformed) = refl
+read_back (Err PoolFull) = refl
+read_back (Err Unseeded) = refl
+read_back (Err CounterSpent) = refl
+read_back (Err SlotRange) = refl
+read_back (Err TryRange) = refl
+read_back (Err NoneDrawn) = refl
+read_back (Err BlankSeed) = refl
+read_back (Err QuotasMalformed) = refl
+read_back (Err SourceNotListed) = refl
+read_back (Err OverAllowance) = refl
+read_back (Err StepsSpent) = refl
 
 pub number-injective : NumberInjective
 number-injective a b e = sym (read_back a) ∙ ap answer_of e ∙ read_back b
+
+-- d is the code's test for a call that was done
+pub tested : {T : Type 0} (d : Bool) (answer : Result T Refusal) → d ≡ is_ok answer → d ≡ eqb (number answer) 0
+tested = Refusals.tested code code-above-0

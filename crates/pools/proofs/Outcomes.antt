@@ -3,11 +3,13 @@
 use Rattle.std.proofs.Common.{◌≡◌, ℕ, Bool, true, false, cond, eqb, ◌≢◌, List, length, sym, refl, ap, ◌∙◌, ne_eqb}
 use Rattle.laws.proofs.Refusals.{accepted}
 use Rattle.generator.specs.Steps.{decode}
-use Rattle.pools.specs.State.{counter_of, malformed, due}
-use Rattle.pools.specs.Refusals.{and_then, request_number, write_number, update_number, draw_number, shuffle_number}
+use Rattle.pools.specs.State.{counter_of, due}
+use Rattle.pools.specs.Refusals.{and_then, request_number, write_number, update_number}
 use Rattle.pools.specs.Effects.{Effect, unchanged}
 use Rattle.pools.specs.Calls.{Call, event, request, update, write, draw, shuffle, input_buffer, call_number, call_effect, call_found, Outcome, effect_of, outcome, step}
+use Rattle.pools.specs.Collected.{standing}
 use Rattle.pools.specs.declared.Fortuna.{Fortuna}
+use Rattle.pools.specs.declared.refusals.Standing.{Standing}
 use Rattle.pools.proofs.Chains.{then-nothing}
 
 -- ---- a call without draws comes to no 33
@@ -106,25 +108,24 @@ module _ (s : Fortuna) (call : Call) (k : ℕ) (d : Bool) (numbered : k ≡ call
     unfolding step
     gives-kept = outcome-gives-kept _ k d numbered tested _ _ (input_buffer call) s (call_effect s call) (all_found s call plain)
 
--- ---- the number of each call, from the tests that the code made
+-- ---- the number of each call, from how the state stands
 
-module _ (s : Fortuna) (clock : ℕ) (m d : Bool) (k : ℕ) (formed : m ≡ malformed s) (timed : d ≡ due s clock) where
-  pub request-number : (out : List ℕ) → k ≡ request_number m (decode s.generator).count d (length out) → k ≡ call_number s (request clock out)
-  unfolding call_number counter_of
-  request-number out e = rw (← formed, ← timed) e
+module _ (s : Fortuna) (clock : ℕ) (r : Standing) (k : ℕ) (stands : r ≡ standing s clock) where
+  pub request-number :
+      (out : List ℕ) → k ≡ request_number r.malformed (decode r.generator).count r.due (length out) → k ≡ call_number s (request clock out)
+  unfolding call_number counter_of standing
+  request-number out e = rw stands at e
 
-  pub write-number : (seed : List ℕ) → k ≡ write_number m (decode s.generator).count d seed → k ≡ call_number s (write clock seed)
-  unfolding call_number counter_of
-  write-number seed e = rw (← formed, ← timed) e
+  pub write-number :
+      (seed : List ℕ) → k ≡ write_number r.malformed (decode r.generator).count r.due seed → k ≡ call_number s (write clock seed)
+  unfolding call_number counter_of standing
+  write-number seed e = rw stands at e
 
-  pub update-number : (seed : List ℕ) → k ≡ update_number m (decode s.generator).count d seed → k ≡ call_number s (update clock seed)
-  unfolding call_number counter_of
-  update-number seed e = rw (← formed, ← timed) e
+  pub update-number :
+      (seed : List ℕ) → k ≡ update_number r.malformed (decode r.generator).count r.due seed → k ≡ call_number s (update clock seed)
+  unfolding call_number counter_of standing
+  update-number seed e = rw stands at e
 
-  pub draw-number : (n times : ℕ) → k ≡ draw_number m (decode s.generator).count d n times → k ≡ call_number s (draw clock n times)
-  unfolding call_number counter_of
-  draw-number n times e = rw (← formed, ← timed) e
-
-  pub shuffle-number : (list : List ℕ) → k ≡ shuffle_number m (decode s.generator).count d list → k ≡ call_number s (shuffle clock list)
-  unfolding call_number counter_of
-  shuffle-number list e = rw (← formed, ← timed) e
+  pub timed : r.due ≡ due s clock
+  unfolding standing
+  timed = ap (λ (x : Standing). x.due) stands

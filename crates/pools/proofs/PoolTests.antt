@@ -1,12 +1,15 @@
 -- What is known of each pool where none is malformed.
 -- Assumes nothing.
 use Rattle.std.proofs.Common.{◌≡◌, ℕ, zero, suc, ◌<◌, ◌≤◌, Bool, false, ◌||◌, List, [], ◌∷◌, ◌++◌, length, refl, ◌∙◌, le_refl, le_of_suc-le-suc, not-suc-le-zero, arith, ltb-false}
+use Rattle.std.specs.Prelude.{Result, Ok}
+use Rattle.std.specs.List.{list_any}
 use Rattle.laws.specs.Lists.{tabulate}
 use Rattle.laws.proofs.Cases.{neither}
 use Rattle.hash.specs.ShaD.{max_pool_length, pool_digest}
-use Rattle.hash.specs.Answers.{digest_within}
+use Rattle.hash.specs.Answers.{within}
+use Rattle.hash.specs.declared.answer.TooLong.{TooLong}
 use Rattle.hash.specs.declared.hasher.Hasher.{Hasher}
-use Rattle.hash.proofs.Laws.{digest-within}
+use Rattle.hash.proofs.Laws as Hash
 use Rattle.pools.specs.Pool.{too_long, dirty_tail, stray_chain, malformed_pool}
 use Rattle.pools.specs.State.{any_pool}
 use Rattle.pools.specs.Collected.{nth}
@@ -39,11 +42,17 @@ within-limit p e =
     ltb-false max_pool_length p.length (neither (too_long p) (dirty_tail p) front).0
 
 -- what the hash gives for a pool is its digest
-pub digest-of-pool : (pools : List Hasher) (i : ℕ) (d : List ℕ)
+pub digest-of-pool : (pools : List Hasher) (i : ℕ) (r : Result (List ℕ) TooLong)
     → any_pool malformed_pool pools ≡ false
     → i < length pools
-    → d ≡ digest_within max_pool_length (nth pools i).length (pool_digest (nth pools i))
-    → d ≡ pool_digest (nth pools i)
-digest-of-pool pools i d formed h e =
+    → r ≡ within max_pool_length (nth pools i).length (pool_digest (nth pools i))
+    → r ≡ Ok (pool_digest (nth pools i))
+digest-of-pool pools i r formed h e =
     let short = within-limit (nth pools i) (none-at malformed_pool pools i formed h) in
-    e ∙ digest-within max_pool_length (nth pools i).length (pool_digest (nth pools i)) short
+    e ∙ Hash.within-limit max_pool_length (nth pools i).length (pool_digest (nth pools i)) short
+
+-- a test of each pool in turn
+pub any-listed : (t : Hasher → Bool) (pools : List Hasher) → list_any t pools ≡ any_pool t pools
+unfolding any_pool
+any-listed t [] = refl
+any-listed t (p ∷ pools) = rw (any-listed t pools)

@@ -1,11 +1,14 @@
--- The test of a pool's room, as the code makes it.
+-- The test of the counter's room, as the code makes it.
 -- Assumes nothing.
-use Rattle.std.proofs.Common.{◌≡◌, ℕ, ◌+◌, ◌-◌, ◌≤◌, ltb, sym, arith, ltb-false, ltb-true, le-ltb, lt-ltb}
-use Rattle.laws.proofs.Cases.{by-test}
+use Rattle.std.proofs.Common.{◌≡◌, ℕ, ◌+◌, Bool, true, false, add_assoc, ◌∙◌}
+use mir.Val.{bool_byte}
+use Rattle.generator.specs.Steps.{GeneratorState}
+use Rattle.generator.specs.Refusals as Generator
+use Rattle.generator.proofs.Laws.{spent-is}
+use Rattle.pools.specs.Refusals.{spent}
 
--- n fits into the limit m: size is above what is left exactly if the sum is above the limit
-pub room-test : (m size n : ℕ) → n ≤ m → ltb (m - n) size ≡ ltb m (size + n)
-room-test m size n h =
-    by-test (ltb (m - n) size) (ltb (m - n) size ≡ ltb m (size + n))
-    (λ t. let k = ltb-true (m - n) size t in rw t (sym (lt-ltb m (size + n) (omega arith))))
-    (λ t. let k = ltb-false (m - n) size t in rw t (sym (le-ltb m (size + n) (omega arith))))
+-- the counter's growth, where g is 1 for a pool reseed that is due
+pub grown : (w : GeneratorState) (g b : ℕ) (due : Bool) → g ≡ bool_byte due → Generator.spent w (g + b) ≡ spent w.count due b
+unfolding spent
+grown w g b true e = spent-is w (g + b) ∙ rw (e, add_assoc)
+grown w g b false e = spent-is w (g + b) ∙ rw (e, add_assoc)

@@ -9,6 +9,5 @@ pub mod Calls
 pub mod Tries
 pub mod Blank
 pub mod Slots
-pub mod Masks
 pub mod Collected
 pub mod Promises

@@ -1,34 +1,33 @@
 // Fortuna: the generator with 32 pools, the timer of the pool reseeds, and seeds (004, 9.5 and 9.6).
 #![tactic(auto)]
 
-mod answer;
 mod events;
+mod refusal;
 mod refusals;
 mod schedule;
 mod well_formed;
 
 ghost use Rattle.std.specs.Prelude.{◌≡◌, length};
-ghost use Rattle.pools.specs.State.{fresh, malformed, due};
+ghost use Rattle.generator.specs.Steps.{decode};
+ghost use Rattle.pools.specs.State.{fresh, malformed_fields, malformed, due};
 ghost use Rattle.pools.specs.Schedule.{used_pools};
 ghost use Rattle.pools.specs.Effects.{next_reseed, pool_reseed, random_data};
 ghost use Rattle.pools.specs.Calls.{event, request, update, write, draw, shuffle, call_number, step};
-ghost use Rattle.pools.specs.Collected.{Reseedable, Servable};
+ghost use Rattle.pools.specs.Collected.{Reseedable, Servable, standing};
 ghost use Rattle.pools.specs.Promises.{number, Gives, GivesBytes, Gains};
 
-pub use answer::Answer;
 use events::gained;
 pub use events::gained_pool;
 use generator::Generator;
 use hash::Hasher;
-use refusals::{draw_answer, shuffle_answer};
+pub use refusal::Refusal;
 pub use refusals::{
-    draw_input, event_answer, list_input, request_answer, request_input, seed_input, update_answer,
-    update_input, write_answer,
+    MAX_TRIES, Standing, draw_input, event_answer, list_input, request_input, seed_input,
+    update_input,
 };
+use schedule::collect_digests;
 pub use schedule::counted;
-use schedule::{collect_digests, is_due};
 pub use well_formed::any_malformed;
-use well_formed::{fields_malformed, masks, pool_malformed};
 
 // The state. last_reseed is 01's mark: the reading at the last pool reseed. reseed_count is 01's reseed number, kept modulo 2^32.
 // reseeded is 01's flag 'made one already', since the number comes back to 0.
@@ -47,37 +46,29 @@ pub struct Fortuna {
 
 // The answer, the pools emptied, and the state that follows.
 #[derive(Clone, Copy)]
-pub struct Outcome {
-    pub answer: Answer,
+pub struct Outcome<S> {
+    pub answer: Result<(), Refusal>,
     pub emptied: u32,
-    pub next: Fortuna,
+    pub next: S,
 }
 
 // What an event comes to: its answer, and the one pool to store.
 #[derive(Clone, Copy)]
 pub struct Gain {
-    pub answer: Answer,
+    pub answer: Result<(), Refusal>,
     pub place: usize,
     pub pool: Hasher,
 }
 
-// What an accepted call leaves.
-#[derive(Clone, Copy)]
-struct Served {
-    emptied: u32,
-    next: Fortuna,
-}
-
 impl Fortuna {
     // The state before any event or seed.
+    #[tactic(auto, unfolding(crate::specs::State::fresh, crate::specs::Events::pool_count))]
     pub fn new() -> Fortuna
         ensures { result ≡ fresh }
     {
-        let generator = Generator::new();
-        let empty = Hasher::empty_pool();
         Fortuna {
-            generator: generator,
-            pools: [empty; 32],
+            generator: Generator::new(),
+            pools: [Hasher::empty_pool(); 32],
             last_reseed: 0,
             reseed_count: 0,
             reseeded: false,
@@ -85,220 +76,172 @@ impl Fortuna {
         }
     }
 
+    // Whether generator, flag, timer and the count of requests contradict each other.
+    #[tactic(auto, using(crate::proofs::WellFormed::fields))]
+    fn has_malformed_fields(&self) -> bool
+        ensures { result ≡ malformed_fields (decode self.now.generator) self.now.reseeded self.now.last_reseed self.now.reseed_count self.now.key_requests }
+    {
+        let unseeded = self.generator.is_unseeded();
+        self.generator.is_malformed()
+            || unseeded && self.reseeded
+            || !self.reseeded && (self.last_reseed != 0 || self.reseed_count != 0)
+            || unseeded && self.key_requests != 0
+    }
+
     // 21, all clauses.
-    fn is_malformed(self) -> bool
-        ensures { result ≡ malformed self }
+    #[tactic(auto, unfolding(crate::specs::State::malformed))]
+    fn is_malformed(&self) -> bool
+        ensures { result ≡ malformed self.now }
     {
-        let masks = masks();
-        let mut malformed = fields_malformed(
-            self.generator,
-            self.reseeded,
-            self.last_reseed,
-            self.reseed_count,
-            self.key_requests,
-        );
-        let mut k: usize = 0;
-        while k < 32 {
-            let pool = self.pools[k];
-            if pool_malformed(pool, &masks) {
-                malformed = true;
-            }
-            k += 1;
-        }
-        malformed
+        any_malformed(&self.pools) || self.has_malformed_fields()
     }
 
-    fn is_due(self, clock: u32) -> bool
-        ensures { result ≡ due self clock }
+    #[tactic(auto, using(crate::proofs::Clock::due_is), unfolding(crate::specs::State::pool_at))]
+    fn is_due(&self, clock: u32) -> bool
+        ensures { result ≡ due self.now clock }
     {
-        let first = self.pools[0];
-        is_due(first.length, self.reseeded, self.last_reseed, clock)
+        self.pools[0].length >= 64 && (!self.reseeded || clock.wrapping_sub(self.last_reseed) > 100)
     }
 
-    // The pool reseed: the digests of the pools that it uses go into the generator, and these pools are emptied.
-    fn reseed(self, clock: u32) -> Served
-        requires { Reseedable self }
-        ensures { (result.emptied ≡ length (used_pools (next_reseed self))) × (result.next ≡ pool_reseed self clock) }
+    #[tactic(auto, unfolding(crate::specs::Collected::standing))]
+    fn standing(&self, clock: u32) -> Standing
+        ensures { result ≡ standing self.now clock }
     {
-        let number = std::num::wrapping_add_u32(self.reseed_count, 1);
-        let pools = self.pools;
-        let collected = collect_digests(pools, number);
-        let count = collected.count;
-        let end = 32 * count;
-        let seed = collected.seed;
-        let outcome = self.generator.reseed(&seed[..end]);
-        let generator = outcome.next;
-        let left = collected.pools;
-        Served {
-            emptied: count as u32,
-            next: Fortuna {
-                generator: generator,
-                pools: left,
-                last_reseed: clock,
-                reseed_count: number,
-                reseeded: true,
-                key_requests: 0,
-            },
+        Standing {
+            malformed: self.is_malformed(),
+            generator: self.generator,
+            due: self.is_due(clock),
         }
     }
 
-    // An accepted request: the pool reseed if due, then the generator's request.
-    fn serve(mut self, reseeds: bool, clock: u32, out: &mut [u8]) -> Served
-        requires { (reseeds ≡ due self clock) × Servable self clock (length out.old) }
-        ensures { (result.emptied ≡ (random_data self clock (length out.old)).emptied) × (result.next ≡ (random_data self clock (length out.old)).next) × (out.new ≡ (random_data self clock (length out.old)).buffer) }
+    // The pool reseed: the digests of the pools that it uses go into the generator, and these pools are emptied. Says how many they are.
+    fn reseed(&mut self, clock: u32) -> u32
+        requires { Reseedable self.old }
+        ensures { (result ≡ length (used_pools (next_reseed self.old))) × (self.new ≡ pool_reseed self.old clock) }
     {
-        let mut emptied = 0u32;
-        if reseeds {
-            let reseeded = self.reseed(clock);
-            emptied = reseeded.emptied;
-            let next = reseeded.next;
-            self = next;
-        }
-        let outcome = self.generator.pseudo_random_data(out);
-        let generator = outcome.next;
-        self.generator = generator;
-        let count = self.key_requests;
-        let more = counted(count);
-        self.key_requests = more;
-        Served {
-            emptied: emptied,
-            next: self,
-        }
+        let mut seed = [0u8; 1024];
+        let number = self.reseed_count.wrapping_add(1);
+        let count = collect_digests(&mut self.pools, number, &mut seed);
+        self.generator = self.generator.reseed(&seed[..32 * count]).next;
+        self.last_reseed = clock;
+        self.reseed_count = number;
+        self.reseeded = true;
+        self.key_requests = 0;
+        count as u32
+    }
+
+    // An accepted request: the pool reseed if due, then the generator's request. Says how many pools were emptied.
+    fn serve(&mut self, reseeds: bool, clock: u32, out: &mut [u8]) -> u32
+        requires { (reseeds ≡ due self.old clock) × Servable self.old clock (length out.old) }
+        ensures { (result ≡ (random_data self.old clock (length out.old)).emptied)
+            × (self.new ≡ (random_data self.old clock (length out.old)).next)
+            × (out.new ≡ (random_data self.old clock (length out.old)).buffer) }
+    {
+        let emptied = if reseeds { self.reseed(clock) } else { 0 };
+        self.generator = self.generator.pseudo_random_data(out).next;
+        self.key_requests = counted(self.key_requests);
+        emptied
     }
 
     // What an event from a source into a pool comes to. Where it is refused, the pool is the one that stands at the place.
-    // The pools are checked here, as in is_malformed: a call of it would copy the state.
-    pub fn gain_of(self, source: u32, pool: u32, data: &[u8]) -> Gain
-        ensures { Gains (step self (event source pool «data».now)) self pool result }
+    pub fn gain_of(&self, source: u32, pool: u32, data: &[u8]) -> Gain
+        ensures { Gains (step self.now (event source pool «data».now)) self.now pool result }
     {
-        let masks = masks();
-        let mut malformed = fields_malformed(
-            self.generator,
-            self.reseeded,
-            self.last_reseed,
-            self.reseed_count,
-            self.key_requests,
-        );
-        let mut k: usize = 0;
-        while k < 32 {
-            let p = self.pools[k];
-            if pool_malformed(p, &masks) {
-                malformed = true;
-            }
-            k += 1;
-        }
         // With no such pool the answer does not depend on what is read.
         let place = (pool % 32) as usize;
-        let mut held = self.pools[place];
-        let answer = event_answer(malformed, held.length, source, pool, data.len());
-        if answer.is_done() {
-            let next = gained(held, source, data);
-            held = next;
-        }
+        let held = self.pools[place];
+        let answer = event_answer(self.is_malformed(), held.length, source, pool, data.len());
+        let pool = if answer.is_ok() {
+            gained(held, source, data)
+        } else {
+            held
+        };
         Gain {
-            answer: answer,
-            place: place,
-            pool: held,
+            answer,
+            place,
+            pool,
         }
     }
 
     // An event from a source into a pool.
-    pub fn add_event(mut self, source: u32, pool: u32, data: &[u8]) -> Outcome
+    pub fn add_event(mut self, source: u32, pool: u32, data: &[u8]) -> Outcome<Fortuna>
         ensures { Gives (step self (event source pool «data».now)) result }
     {
         let gain = self.gain_of(source, pool, data);
-        let answer = gain.answer;
-        let place = gain.place;
-        let held = gain.pool;
-        self.pools[place] = held;
+        self.pools[gain.place] = gain.pool;
         Outcome {
-            answer: answer,
+            answer: gain.answer,
             emptied: 0,
             next: self,
         }
     }
 
+    // Kept: (d) this, write_seed and update_seed differ in their check and in the reseed before; one helper that takes both as closures is longer.
     // Fills the buffer with random bytes, at a reading of the clock.
-    pub fn random_data(mut self, clock: u32, out: &mut [u8]) -> Outcome
+    pub fn random_data(mut self, clock: u32, out: &mut [u8]) -> Outcome<Fortuna>
         ensures { GivesBytes (step self (request clock out.old)) result out.new }
     {
-        let malformed = self.is_malformed();
-        let reseeds = self.is_due(clock);
-        let answer = request_answer(malformed, self.generator, reseeds, out.len());
-        let mut emptied = 0u32;
-        if answer.is_done() {
-            let served = self.serve(reseeds, clock, out);
-            emptied = served.emptied;
-            let next = served.next;
-            self = next;
+        let standing = self.standing(clock);
+        let answer = standing.request_answer(out.len());
+        let mut emptied = 0;
+        if answer.is_ok() {
+            emptied = self.serve(standing.due, clock, out);
         }
         Outcome {
-            answer: answer,
-            emptied: emptied,
+            answer,
+            emptied,
             next: self,
         }
     }
 
     // Fills the 64 bytes with a new seed.
-    pub fn write_seed(mut self, clock: u32, seed: &mut [u8]) -> Outcome
+    pub fn write_seed(mut self, clock: u32, seed: &mut [u8]) -> Outcome<Fortuna>
         ensures { GivesBytes (step self (write clock seed.old)) result seed.new }
     {
-        let malformed = self.is_malformed();
-        let reseeds = self.is_due(clock);
-        let answer = write_answer(malformed, self.generator, reseeds, seed);
-        let mut emptied = 0u32;
-        if answer.is_done() {
-            let served = self.serve(reseeds, clock, seed);
-            emptied = served.emptied;
-            let next = served.next;
-            self = next;
+        let standing = self.standing(clock);
+        let answer = standing.write_answer(seed);
+        let mut emptied = 0;
+        if answer.is_ok() {
+            emptied = self.serve(standing.due, clock, seed);
         }
         Outcome {
-            answer: answer,
-            emptied: emptied,
+            answer,
+            emptied,
             next: self,
         }
     }
 
     // The 64 bytes reseed the generator, then a new seed overwrites them.
-    pub fn update_seed(mut self, clock: u32, seed: &mut [u8]) -> Outcome
+    pub fn update_seed(mut self, clock: u32, seed: &mut [u8]) -> Outcome<Fortuna>
         ensures { GivesBytes (step self (update clock seed.old)) result seed.new }
     {
-        let malformed = self.is_malformed();
-        let reseeds = self.is_due(clock);
-        let answer = update_answer(malformed, self.generator, reseeds, seed);
-        let mut emptied = 0u32;
-        if answer.is_done() {
-            let outcome = self.generator.reseed(seed);
-            let generator = outcome.next;
-            self.generator = generator;
-            let served = self.serve(reseeds, clock, seed);
-            emptied = served.emptied;
-            let next = served.next;
-            self = next;
+        let standing = self.standing(clock);
+        let answer = standing.update_answer(seed);
+        let mut emptied = 0;
+        if answer.is_ok() {
+            self.generator = self.generator.reseed(seed).next;
+            emptied = self.serve(standing.due, clock, seed);
         }
         Outcome {
-            answer: answer,
-            emptied: emptied,
+            answer,
+            emptied,
             next: self,
         }
     }
 
     // The answer to a draw below n with d tries, as its one check gives it before the tries: it is never 33.
-    pub fn draw_answer(self, clock: u32, n: u64, d: u32) -> Answer
-        ensures { number result ≡ call_number self (draw clock n d) }
+    #[tactic(auto, unfolding(crate::specs::Calls::call_number, crate::specs::State::counter_of, crate::specs::Collected::standing))]
+    pub fn draw_answer(&self, clock: u32, n: u64, d: u32) -> Result<(), Refusal>
+        ensures { number result ≡ call_number self.now (draw clock n d) }
     {
-        let malformed = self.is_malformed();
-        let reseeds = self.is_due(clock);
-        draw_answer(malformed, self.generator, reseeds, n, d)
+        self.standing(clock).draw_answer(n, d)
     }
 
     // The answer to a shuffle of the list, likewise.
-    pub fn shuffle_answer(self, clock: u32, list: &[u16]) -> Answer
-        ensures { number result ≡ call_number self (shuffle clock list.now) }
+    #[tactic(auto, unfolding(crate::specs::Calls::call_number, crate::specs::State::counter_of, crate::specs::Collected::standing))]
+    pub fn shuffle_answer(&self, clock: u32, list: &[u16]) -> Result<(), Refusal>
+        ensures { number result ≡ call_number self.now (shuffle clock list.now) }
     {
-        let malformed = self.is_malformed();
-        let reseeds = self.is_due(clock);
-        shuffle_answer(malformed, self.generator, reseeds, list)
+        self.standing(clock).shuffle_answer(list)
     }
 }

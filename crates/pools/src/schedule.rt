@@ -1,65 +1,32 @@
-// When a pool reseed is due, and what the pools that it uses give.
+// What the pools that a reseed uses give, and the count of requests.
 ghost use Rattle.std.specs.Prelude.{◌≡◌, false};
-ghost use Rattle.pools.specs.Schedule.{is_due, count_request};
+ghost use Rattle.pools.specs.Schedule.{count_request};
 ghost use Rattle.pools.specs.Pool.{malformed_pool};
 ghost use Rattle.pools.specs.State.{any_pool};
 ghost use Rattle.pools.specs.Collected.{Collects};
 
 use hash::Hasher;
-use laws::overwrite;
 
-// Whether a reseed is due, by the length of pool 0, whether one was made, the time of the last one, and the clock.
-pub(crate) fn is_due(size: u64, made: bool, last: u32, clock: u32) -> bool
-    ensures { result ≡ is_due size made last clock }
+// Empties the pools that reseed `number` uses, puts their digests in front of `seed`, and says how many they are. They are the first ones:
+// a power of two divides the number only where all lower ones do.
+pub(crate) fn collect_digests(pools: &mut [Hasher; 32], number: u32, seed: &mut [u8; 1024]) -> usize
+    requires { any_pool malformed_pool pools.old ≡ false }
+    ensures { Collects pools.old number pools.new seed.new result }
 {
-    if size < 64 {
-        return false;
-    }
-    if made {
-        return std::num::wrapping_sub_u32(clock, last) > 100;
-    }
-    true
-}
-
-// The pools after a reseed, the digests of those that it emptied in front of `seed`, and how many those are.
-#[derive(Clone, Copy)]
-pub(crate) struct Collected {
-    pub(crate) pools: [Hasher; 32],
-    pub(crate) seed: [u8; 1024],
-    pub(crate) count: usize,
-}
-
-// Takes the pools that reseed `number` uses. They are the first ones: a power of two divides it only where all lower ones do.
-pub(crate) fn collect_digests(pools: [Hasher; 32], number: u32) -> Collected
-    requires { any_pool malformed_pool pools ≡ false }
-    ensures { Collects pools number result }
-{
-    let mut left = pools;
-    let mut seed = [0u8; 1024];
-    let mut count: usize = 0;
-    let mut power: u64 = 1;
+    let count = (number.trailing_zeros() as usize + 1).min(32);
     let empty = Hasher::empty_pool();
-    while count < 32 && (number as u64) % power == 0 {
-        let pool = pools[count];
-        let hashed = pool.pool_digest();
-        let digest = hashed.digest;
-        let at = 32 * count;
-        let end = at + 32;
-        overwrite(&mut seed[at..end], &digest);
-        left[count] = empty;
-        power = 2 * power;
-        count = count + 1;
+    for i in 0..count {
+        let digest = pools[i].pool_digest().unwrap();
+        seed[32 * i..32 * i + 32].copy_from_slice(&digest);
+        pools[i] = empty;
     }
-    Collected {
-        pools: left,
-        seed: seed,
-        count: count,
-    }
+    count
 }
 
 // One request more on the key, up to 65,535.
+#[tactic(auto, unfolding(crate::specs::Schedule::count_request, crate::specs::Schedule::max_key_requests))]
 pub fn counted(n: u16) -> u16
     ensures { result ≡ count_request n }
 {
-    if n < 65535 { n + 1 } else { n }
+    n.saturating_add(1)
 }

@@ -1,5 +1,7 @@
 pub mod Lists
-pub mod Walks
+pub mod Places
+pub mod Charging
+pub mod Checking
 pub mod Entries
 pub mod Runs
 pub mod Left

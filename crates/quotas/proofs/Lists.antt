@@ -12,7 +12,8 @@ use borrow.Author.Tests.{ltb-false, le-ltb, eqb-true, ne_eqb, not-false}
 use Rattle.laws.proofs.Cases.{split, by-test, neither}
 use Rattle.laws.proofs.Refusals.{passed}
 use Rattle.quotas.specs.declared.Quota.{Quota}
-use Rattle.quotas.specs.Records.{max_quotas, place_of, is_listed, quota_of, repeats, overspent, malformed_quotas, event_quotas_number, charged_by, unspent, charged, cleared}
+use Rattle.quotas.specs.Records.{max_quotas, place_of, is_listed, quota_of, repeats, overspent, malformed_quotas, event_quotas_number}
+use Rattle.quotas.specs.Records.{charged_by, unspent, charged, cleared}
 
 -- ---- the record of a source, at the head or after it
 

@@ -4,7 +4,8 @@ use Rattle.std.specs.Prelude.{cond, List, [], ◌∷◌, ℕ, eqb, ltb, length}
 use Rattle.pools.specs.declared.Fortuna.{Fortuna}
 use Rattle.pools.specs.Events.{gain}
 use Rattle.pools.specs.Refusals.{and_then}
-use Rattle.pools.specs.Calls.{Call, event, request, update, write, draw, shuffle, input_buffer, input_number, state_number, call_found, call_value, call_effect, Outcome, outcome}
+use Rattle.pools.specs.Calls.{Call, event, request, update, write, draw, shuffle}
+use Rattle.pools.specs.Calls.{input_buffer, input_number, state_number, call_found, call_value, call_effect, Outcome, outcome}
 use Rattle.quotas.specs.declared.Quota.{Quota}
 use Rattle.quotas.specs.Records.{quotas_number, event_quotas_number, charged, cleared}
 

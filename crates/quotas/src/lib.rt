@@ -1,10 +1,13 @@
 // A lent list of quotas (02 (x)): for each source its allowance in bytes and the bytes spent.
 #![tactic(auto)]
 
-ghost use Rattle.std.specs.Prelude.{◌≡◌, ◌<◌, ◌+◌, ◌^◌};
-ghost use Rattle.quotas.specs.Records.{place_from, quotas_number, charged_by, unspent, cleared};
-ghost use Rattle.quotas.specs.Charges.{comes_first, verdict_of, unlisted_of, charge_number, charge_list, cleared_after};
-ghost use Rattle.quotas.specs.Charges.{first_bound, start_at, bound_after, fault_of};
+ghost use Rattle.std.specs.Prelude.{◌≡◌};
+ghost use Rattle.pools.specs.Promises.{number};
+ghost use Rattle.quotas.specs.Records.{place_from, quotas_number, cleared};
+ghost use Rattle.quotas.specs.Charges.{comes_first, judged, unlisted_of, charge_number, charge_list, cleared_after};
+ghost use Rattle.quotas.specs.Charges.{first_bound, start_at, bound_after};
+
+use pools::Refusal;
 
 // The most records of a list.
 const MAX_QUOTAS: usize = 64;
@@ -18,121 +21,69 @@ pub struct Quota {
 }
 
 // The place of a source's first record at or after `from`. Where it has none there: the number of records, or `from` if that is more.
+// Kept: (a) a place past the end for none, and no Option: the clause, by `place_from`, says which place that is.
+#[tactic(auto, using(crate::proofs::Places::places), unfolding(crate::specs::Records::place_from))]
 pub fn find(list: &[Quota], source: u32, from: usize) -> usize
     ensures { result ≡ place_from list.now source from }
 {
-    let mut i = from;
-    while i < list.len() {
-        let r = list[i];
-        if r.source == source {
+    for i in from..list.len() {
+        if list[i].source == source {
             return i;
         }
-        i += 1;
     }
-    i
-}
-
-// The record with nothing spent.
-fn unspent(r: Quota) -> Quota
-    ensures { result ≡ unspent r }
-{
-    Quota {
-        source: r.source,
-        allowance: r.allowance,
-        spent: 0,
-    }
+    from.max(list.len())
 }
 
 // Sets all that is spent to 0.
+#[tactic(auto, unfolding(crate::specs::Records::cleared))]
 pub fn clear(list: &mut [Quota])
     ensures { list.new ≡ cleared list.old }
 {
-    let mut i = 0;
-    while i < list.len() {
-        let r = unspent(list[i]);
-        list[i] = r;
-        i += 1;
+    for quota in list.iter_mut() {
+        quota.spent = 0;
     }
 }
 
 // Sets all that is spent to 0 where pools were emptied.
+#[tactic(auto, unfolding(crate::specs::Charges::cleared_after))]
 pub fn clear_after(list: &mut [Quota], emptied: u32)
     ensures { list.new ≡ cleared_after emptied list.old }
 {
-    if 0 < emptied {
+    if emptied > 0 {
         clear(list);
     }
 }
 
-// The record with a cost more spent.
-fn charged_by(r: Quota, cost: u32) -> Quota
-    requires { r.spent + cost < 2 ^ 32 }
-    ensures { result ≡ charged_by r cost }
-{
-    Quota {
-        source: r.source,
-        allowance: r.allowance,
-        spent: r.spent + cost,
-    }
-}
-
-// What an event comes to: its number, and its source's record afterwards.
-#[derive(Clone, Copy)]
-struct Verdict {
-    number: u32,
-    after: Quota,
-}
-
 // Whether a number comes before 38 and 39: an event's input numbers, and 37.
+#[tactic(auto, unfolding(crate::specs::Charges::comes_first))]
 fn comes_first(number: u32) -> bool
     ensures { result ≡ comes_first number }
 {
-    if number == 37 {
-        return true;
-    }
-    if number == 0 {
-        return false;
-    }
-    number < 21
+    matches!(number, 1..=20 | 37)
 }
 
-// The verdict on an event that has a number, or 0, without its source's record.
-fn judge(r: Quota, cost: u32, number: u32) -> Verdict
-    ensures { result ≡ verdict_of r cost number }
+// The record charged with the cost of an event that has a number, or 0, without it; or the number that refuses the event.
+#[tactic(auto, unfolding(crate::specs::Charges::judged))]
+fn judge(quota: Quota, cost: u32, number: u32) -> Result<Quota, u32>
+    ensures { result ≡ judged quota cost number }
 {
-    let allowance = r.allowance;
-    let spent = r.spent;
     if comes_first(number) {
-        return Verdict {
-            number: number,
-            after: r,
-        };
+        return Err(number);
     }
-    if allowance < spent {
-        return Verdict {
-            number: 39,
-            after: r,
-        };
-    }
-    if allowance - spent < cost {
-        return Verdict {
-            number: 39,
-            after: r,
-        };
+    if u64::from(quota.allowance) < u64::from(quota.spent) + u64::from(cost) {
+        return Err(39);
     }
     if number != 0 {
-        return Verdict {
-            number: number,
-            after: r,
-        };
+        return Err(number);
     }
-    Verdict {
-        number: 0,
-        after: charged_by(r, cost),
-    }
+    Ok(Quota {
+        spent: quota.spent + cost,
+        ..quota
+    })
 }
 
 // The number of an event whose source is not listed.
+#[tactic(auto, unfolding(crate::specs::Charges::unlisted_of))]
 fn unlisted(number: u32) -> u32
     ensures { result ≡ unlisted_of number }
 {
@@ -140,78 +91,68 @@ fn unlisted(number: u32) -> u32
 }
 
 // Finds the source's record, and charges it where the event is accepted: `number` is the event's, without 38 and 39.
+// Kept: (a) numbers for refusals, here, in judge and in unlisted: the clause, by `charge_number`, holds for any number of an event.
 pub fn charge(list: &mut [Quota], source: u32, cost: u32, number: u32) -> u32
     ensures { (result ≡ charge_number list.old source cost number)
         × (list.new ≡ charge_list list.old source cost number) }
 {
-    let i = find(list, source, 0);
-    if i < list.len() {
-        let v = judge(list[i], cost, number);
-        list[i] = v.after;
-        return v.number;
+    let place = find(list, source, 0);
+    if place >= list.len() {
+        return unlisted(number);
     }
-    unlisted(number)
+    match judge(list[place], cost, number) {
+        Ok(charged) => {
+            list[place] = charged;
+            0
+        }
+        Err(refusal) => refusal,
+    }
 }
 
-// A check keeps one number as it goes along the list, the bound: 0 once a fault is found, else 2 more than the largest source so far, and
-// 1 before the first record. A source above all before it is new: it needs no search among them.
+// A check keeps a bound as it goes along the list: 1 more than the largest source so far, and 0 before the first record. A source above all
+// before it is new: it needs no search among them.
 
-// The bound before the first record: 0 where there are too many.
-fn first_bound(n: usize) -> u64
+// The bound before the first record, of a list that is not too long.
+#[tactic(auto, unfolding(crate::specs::Charges::first_bound, crate::specs::Records::max_quotas))]
+fn first_bound(n: usize) -> Result<u64, Refusal>
     ensures { result ≡ first_bound n }
 {
-    if MAX_QUOTAS < n { 0 } else { 1 }
+    if n > MAX_QUOTAS {
+        Err(Refusal::QuotasMalformed)
+    } else {
+        Ok(0)
+    }
 }
 
-// Where the search for the source of the record at i starts: at i where the source is above all before it, or a fault is known, else at 0.
+// Where the search for the source of the record at i starts: at i where the source is above all before it, else at 0.
+#[tactic(auto, unfolding(crate::specs::Charges::start_at))]
 fn start_at(bound: u64, source: u32, i: usize) -> usize
     ensures { result ≡ start_at bound source i }
 {
-    if bound <= source as u64 + 1 { i } else { 0 }
+    if bound <= u64::from(source) { i } else { 0 }
 }
 
-// The bound after the record at i, whose source was found at `place`: 0 where a fault is known, where the source stands before i too,
-// or where spent is above the allowance.
-fn bound_after(bound: u64, r: Quota, place: usize, i: usize) -> u64
-    ensures { result ≡ bound_after bound r place i }
+// The bound after the record at i, whose source was found at `place`. The source may not stand before i too, nor spent be above the
+// allowance.
+#[tactic(auto, unfolding(crate::specs::Charges::bound_after))]
+fn bound_after(bound: u64, quota: Quota, place: usize, i: usize) -> Result<u64, Refusal>
+    ensures { result ≡ bound_after bound quota place i }
 {
-    let source = r.source;
-    let allowance = r.allowance;
-    let spent = r.spent;
-    if bound == 0 {
-        return 0;
+    if place != i || quota.allowance < quota.spent {
+        return Err(Refusal::QuotasMalformed);
     }
-    if place != i {
-        return 0;
-    }
-    if allowance < spent {
-        return 0;
-    }
-    // 1 more than the least source above this one
-    let above = source as u64 + 2;
-    if bound < above { above } else { bound }
+    Ok(bound.max(u64::from(quota.source) + 1))
 }
 
-// The number of a list whose check ended with the bound.
-fn fault_of(bound: u64) -> u32
-    ensures { result ≡ fault_of bound }
-{
-    if bound == 0 { 37 } else { 0 }
-}
-
-// 37 where the list is too long, has a source twice or a record that spent above its allowance, else 0.
+// The answer to a list, by this alone: it may not be too long, nor have a source twice, nor a record that spent above its allowance.
 // One pass where the sources rise; else each source that is not above all before it is searched for from the start.
-pub fn check(list: &[Quota]) -> u32
-    ensures { result ≡ quotas_number list.now }
+pub fn check(list: &[Quota]) -> Result<(), Refusal>
+    ensures { number result ≡ quotas_number list.now }
 {
-    let mut bound = first_bound(list.len());
-    let mut i = 0;
-    while i < list.len() {
-        let r = list[i];
-        let from = start_at(bound, r.source, i);
-        let place = find(list, r.source, from);
-        bound = bound_after(bound, r, place, i);
-        i += 1;
+    let mut bound = first_bound(list.len())?;
+    for (i, quota) in list.iter().enumerate() {
+        let place = find(list, quota.source, start_at(bound, quota.source, i));
+        bound = bound_after(bound, *quota, place, i)?;
     }
-    fault_of(bound)
+    Ok(())
 }

@@ -14,19 +14,15 @@ const CLOCK: u32 = 1000;
 fn main(rt: HostRuntime) -> io::Result<()> {
     let mut seed = [7u8; 64];
     seed[0] = 1; // not blank
-    let seeded = Fortuna::new().update_seed(CLOCK, &mut seed);
+    let mut state = Fortuna::new().update_seed(CLOCK, &mut seed).next;
     let mut list = [0u16, 1, 2, 3, 4, 5, 6, 7, 8, 9, 10, 11];
-    let shuffled = shuffle(seeded.next, CLOCK, &mut list);
-    let mut state = shuffled.next;
-    let mut bytes = [0u8; 24];
-    let mut i: usize = 0;
-    while i < STATIONS {
+    state = shuffle(state, CLOCK, &mut list).next;
+    let mut bytes = [0u8; 2 * STATIONS];
+    for i in 0..STATIONS {
         let drawn = random_below(state, CLOCK, SLOTS, 64);
-        let next = drawn.next;
-        state = next;
+        state = drawn.next;
         bytes[i] = (list[i] % 256) as u8;
-        bytes[STATIONS + i] = (drawn.value % 256) as u8;
-        i += 1;
+        bytes[STATIONS + i] = (drawn.answer.unwrap_or(0) % 256) as u8;
     }
     rt.write_all(&bytes)
 }

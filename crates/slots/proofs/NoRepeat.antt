@@ -1,14 +1,15 @@
 -- The test for a repeat, and the loops that make it.
 -- Assumes nothing.
-use mathlib.Core.Path.{◌≡◌, refl, ap}
-use mathlib.Core.Logic.{◌≢◌}
+use mathlib.Core.Path.{◌≡◌, refl, ap, ap₂, sym, ◌∙◌}
 use mathlib.Core.Bool.{Bool, true, false, cond, ◌||◌, true≢false}
 use mathlib.Core.List.{List, [], ◌∷◌}
-use Prim.Native.Nat.{ℕ, ◌+◌, ◌<◌, ◌≤◌, zero-le}
+use Prim.Native.Nat.{ℕ, ◌+◌, ◌-◌, ◌<◌, ◌≤◌, zero-le}
 use native.Mathlib.Numerals.{add-one}
 use native.Mathlib.Omega.{arith}
 use lib.Dec.{eqb}
-use lib.ListN.{length, get_or, drop, drop_of_length-le}
+use Rattle.std.specs.List.{list_any}
+use Rattle.laws.proofs.Copy.{part_end}
+use lib.ListN.{length, get_or, take, drop, drop_of_length-le}
 use lib.Seq.{drop-cons}
 use borrow.Author.Tests.{eq-eqb, ne_eqb, eqb-true}
 use Rattle.laws.specs.Lists.{count_of}
@@ -55,21 +56,16 @@ passes-test (y ∷ ys) u = rw (absent y ys (distinct-once y ys u)) (passes-test 
 pub repeat-law : RepeatLaw
 repeat-law xs = (no-repeat xs, passes-test xs)
 
--- ---- a number in what is left of a list
+-- ---- a number in a list, as the library looks for it
 
-in-next : (x : ℕ) (s : List ℕ) (i : ℕ) → i < length s → is_in x (drop i s) ≡ (eqb x (get_or s i 0) || is_in x (drop (i + 1) s))
+same-test : (x y : ℕ) (t : Bool) → eqb x y ≡ t → eqb y x ≡ t
+same-test x y true e = rw (eqb-true x y e) (eq-eqb y y refl)
+same-test x y false e = ne_eqb y x (λ q. true≢false (sym (eq-eqb x y (sym q)) ∙ e))
+
+found : (x : ℕ) (ys : List ℕ) → list_any (λ (y : ℕ). eqb y x) ys ≡ is_in x ys
 unfolding is_in
-in-next x s i h = rw (add-one i, drop-cons s i 0 h)
-
-pub in-here : (x : ℕ) (s : List ℕ) (i : ℕ) → i < length s → x ≡ get_or s i 0 → is_in x (drop i s) ≡ true
-in-here x s i h e = rw (in-next x s i h, eq-eqb x (get_or s i 0) e)
-
-pub in-past : (x : ℕ) (s : List ℕ) (i : ℕ) → i < length s → x ≢ get_or s i 0 → is_in x (drop i s) ≡ is_in x (drop (i + 1) s)
-in-past x s i h e = rw (in-next x s i h, ne_eqb x (get_or s i 0) e)
-
-pub in_end : (x : ℕ) (s : List ℕ) (i : ℕ) → length s ≤ i → is_in x (drop i s) ≡ false
-unfolding is_in
-in_end x s i h = rw (drop_of_length-le s h)
+found x [] = refl
+found x (y ∷ ys) = ap₂ (λ (a b : Bool). a || b) (same-test x y (eqb x y) refl) (found x ys)
 
 -- ---- a repeat in what is left of a list
 
@@ -77,12 +73,17 @@ repeat-next : (s : List ℕ) (i : ℕ) → i < length s → has_repeat (drop i s
 unfolding has_repeat
 repeat-next s i h = rw (add-one i, drop-cons s i 0 h)
 
-pub repeat-here : (s : List ℕ) (i : ℕ) → i < length s → is_in (get_or s i 0) (drop (i + 1) s) ≡ true → has_repeat (drop i s) ≡ true
-repeat-here s i h e = rw (repeat-next s i h, e)
+-- b is whether the number at i stands behind it
+module _ (s : List ℕ) (i : ℕ) (fits : i < length s) (b : Bool)
+    (looked : b ≡ list_any (λ (y : ℕ). eqb y (get_or s i 0)) (take (length s - (i + 1)) (drop (i + 1) s))) where
+  behind : is_in (get_or s i 0) (drop (i + 1) s) ≡ b
+  behind = sym (looked ∙ rw part_end (found (get_or s i 0) (drop (i + 1) s)))
 
-pub repeat_past : (s : List ℕ) (i : ℕ) → i < length s → is_in (get_or s i 0) (drop (i + 1) s) ≡ false
-    → has_repeat (drop i s) ≡ has_repeat (drop (i + 1) s)
-repeat_past s i h e = rw (repeat-next s i h, e)
+  pub repeat-here : b ≡ true → has_repeat (drop i s) ≡ true
+  repeat-here e = rw (repeat-next s i fits, behind, e)
+
+  pub repeat_past : b ≡ false → has_repeat (drop i s) ≡ has_repeat (drop (i + 1) s)
+  repeat_past e = rw (repeat-next s i fits, behind, e)
 
 pub repeat-end : (s : List ℕ) (i : ℕ) → length s ≤ i → has_repeat (drop i s) ≡ false
 unfolding has_repeat

@@ -5,11 +5,9 @@ use std::io;
 
 fn main(rt: HostRuntime) -> io::Result<()> {
     let seeded = generator::Generator::new().reseed(b"synthetic tremor, run 17");
-    let state = seeded.next;
     let mut bytes = [0u8; 48];
-    let drawn = state.pseudo_random_data(&mut bytes);
-    let answer = drawn.answer;
-    if answer.is_done() {
+    let drawn = seeded.next.pseudo_random_data(&mut bytes);
+    if drawn.answer.is_ok() {
         rt.write_all(&bytes)?;
     }
     Ok(())

@@ -3,7 +3,7 @@ use crate::lines;
 use crate::parts::{ROOM, after, front};
 use crate::text::number;
 use generator::{Generator, Outcome};
-use laws::overwrite;
+use laws::{number_of, overwrite};
 use std::io;
 
 // A state that no call here has led to: key and counter.
@@ -12,45 +12,35 @@ fn given(data: &[u8]) -> Generator {
     let mut counter = [0u8; 16];
     overwrite(&mut key, data);
     overwrite(&mut counter, after(data, 32));
-    Generator {
-        key: key,
-        counter: counter,
-    }
+    Generator { key, counter }
 }
 
 // Prints what a call gave, and hands the state on that follows.
 fn shown(rt: &impl Print, o: Outcome) -> io::Result<Generator> {
-    let answer = o.answer;
-    let next = o.next;
-    let key = next.key;
-    let counter = next.counter;
-    lines::number(rt, b"", answer.number() as u64)?;
-    lines::bytes(rt, b" key ", &key)?;
-    lines::bytes(rt, b" counter ", &counter)?;
-    Ok(next)
+    lines::number(rt, b"", number_of(o.answer))?;
+    lines::bytes(rt, b" key ", &o.next.key)?;
+    lines::bytes(rt, b" counter ", &o.next.counter)?;
+    Ok(o.next)
 }
 
 // Prints a lent buffer: its bytes, or their SHA-256 where they are more than 64; nothing where it is empty.
 fn buffer(rt: &impl Print, out: &[u8]) -> io::Result<()> {
-    if out.len() == 0 {
-        return Ok(());
+    match out.len() {
+        0 => Ok(()),
+        1..=64 => lines::bytes(rt, b" buffer ", out),
+        _ => {
+            let digest = hash::sha256(out).unwrap_or([0; 32]);
+            lines::bytes(rt, b" buffer sha256 ", &digest)
+        }
     }
-    if out.len() <= 64 {
-        return lines::bytes(rt, b" buffer ", out);
-    }
-    let h = hash::sha256(out);
-    lines::bytes(rt, b" buffer sha256 ", &h.digest)
 }
 
 // Reseeds by what the buffer holds, each before a request that fills it, as often as said.
 fn turns(state: Generator, times: u64, out: &mut [u8]) -> Generator {
     let mut g = state;
     for _ in 0..times {
-        let a = g.reseed(out);
-        let seeded = a.next;
-        let b = seeded.pseudo_random_data(out);
-        let next = b.next;
-        g = next;
+        g = g.reseed(out).next;
+        g = g.pseudo_random_data(out).next;
     }
     g
 }
@@ -63,32 +53,35 @@ fn filled(
     g: Generator,
     out: &mut [u8],
 ) -> io::Result<Generator> {
-    if call == b'b' {
-        return shown(rt, g.generate_blocks(out));
+    match call {
+        b'b' => shown(rt, g.generate_blocks(out)),
+        b't' => Ok(turns(g, number(front(after(data, 3), 2)), out)),
+        _ => shown(rt, g.pseudo_random_data(out)),
     }
-    if call == b't' {
-        return Ok(turns(g, number(front(after(data, 3), 2)), out));
-    }
-    shown(rt, g.pseudo_random_data(out))
 }
 
-// A call on the first n bytes of the buffer.
+// A call on the buffer: the first three bytes are its length, and those after the numbers what its front holds.
 fn lent(
     rt: &impl Print,
     call: u8,
     data: &[u8],
     g: Generator,
-    out: &mut [u8],
-    n: usize,
+    out: &mut [u8; ROOM],
 ) -> io::Result<Generator> {
-    if n > out.len() {
-        return Ok(g);
+    let numbers = if call == b't' { 5 } else { 3 };
+    overwrite(out, after(data, numbers));
+    let n = number(front(data, 3)) as usize;
+    let next = match out.get_mut(..n) {
+        Some(part) => filled(rt, call, data, g, part)?,
+        None => g,
+    };
+    if call != b't' {
+        buffer(rt, front(out, n))?;
     }
-    filled(rt, call, data, g, &mut out[..n])
+    Ok(next)
 }
 
-// A new state (n), a given one (k), a reseed (s), or a call on the buffer: the first three bytes are its length, and those after the
-// numbers what its front holds.
+// A new state (n), a given one (k), a reseed (s), or a call on the buffer.
 pub(crate) fn called(
     rt: &impl Print,
     call: u8,
@@ -96,21 +89,10 @@ pub(crate) fn called(
     g: Generator,
     out: &mut [u8; ROOM],
 ) -> io::Result<Generator> {
-    if call == b'n' {
-        return Ok(Generator::new());
+    match call {
+        b'n' => Ok(Generator::new()),
+        b'k' => Ok(given(data)),
+        b's' => shown(rt, g.reseed(data)),
+        _ => lent(rt, call, data, g, out),
     }
-    if call == b'k' {
-        return Ok(given(data));
-    }
-    if call == b's' {
-        return shown(rt, g.reseed(data));
-    }
-    let numbers = if call == b't' { 5 } else { 3 };
-    overwrite(out, after(data, numbers));
-    let n = number(front(data, 3)) as usize;
-    let next = lent(rt, call, data, g, out, n)?;
-    if call != b't' {
-        buffer(rt, front(out, n))?;
-    }
-    Ok(next)
 }

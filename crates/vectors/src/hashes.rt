@@ -2,11 +2,12 @@
 use crate::lines;
 use crate::parts::{after, front};
 use crate::text::number;
-use hash::{Hashed, Hasher};
+use hash::{Hasher, TooLong};
+use laws::number_of;
 use std::io;
 
 // A state that no message is known for: another hash value, and a tail with no zeros after its bytes.
-fn given(count: u64) -> Hasher {
+fn given(length: u64) -> Hasher {
     Hasher {
         chain: [
             0x0123_4567,
@@ -19,7 +20,7 @@ fn given(count: u64) -> Hasher {
             0x789a_bcde,
         ],
         tail: [0xa5; 64],
-        length: count,
+        length,
     }
 }
 
@@ -27,9 +28,7 @@ fn given(count: u64) -> Hasher {
 fn absorbed(state: Hasher, times: u64, part: &[u8]) -> Hasher {
     let mut h = state;
     for _ in 0..times {
-        let a = h.absorb(part);
-        let next = a.next;
-        h = next;
+        h = h.absorb(part).next;
     }
     h
 }
@@ -37,24 +36,18 @@ fn absorbed(state: Hasher, times: u64, part: &[u8]) -> Hasher {
 // Sets the running hash: g gives it by its length; n, e and a absorb bytes as often as the first two say, from a new one, from an
 // empty pool, and from what it is.
 pub(crate) fn set(call: u8, data: &[u8], state: Hasher) -> Hasher {
-    if call == b'g' {
-        return given(number(front(data, 8)));
-    }
-    let mut start = state;
-    if call == b'n' {
-        let new = Hasher::new();
-        start = new;
-    }
-    if call == b'e' {
-        let empty = Hasher::empty_pool();
-        start = empty;
-    }
+    let start = match call {
+        b'g' => return given(number(front(data, 8))),
+        b'n' => Hasher::new(),
+        b'e' => Hasher::empty_pool(),
+        _ => state,
+    };
     absorbed(start, number(front(data, 2)), after(data, 2))
 }
 
 // The digest of the line's bytes, s by SHA-256, d by D, j by D with the first 32 as a part of their own; or of the running hash, f
 // by SHA-256 and any other by D.
-fn hashed(call: u8, data: &[u8], state: Hasher) -> Hashed {
+fn hashed(call: u8, data: &[u8], state: Hasher) -> Result<[u8; 32], TooLong> {
     match call {
         b's' => hash::sha256(data),
         b'd' => hash::sha_d256(data),
@@ -66,15 +59,9 @@ fn hashed(call: u8, data: &[u8], state: Hasher) -> Hashed {
 
 // Prints a digest; for a capital the answer's number, with A that of absorbing the line's bytes.
 pub(crate) fn answer(rt: &impl Print, call: u8, data: &[u8], state: Hasher) -> io::Result<()> {
-    if call == b'A' {
-        let a = state.absorb(data);
-        let answer = a.answer;
-        return lines::number(rt, b"", answer.number() as u64);
+    match call {
+        b'A' => lines::number(rt, b"", number_of(state.absorb(data).answer)),
+        b'F' | b'P' => lines::number(rt, b"", number_of(hashed(call, data, state))),
+        _ => lines::bytes(rt, b"", &hashed(call, data, state).unwrap_or([0; 32])),
     }
-    let h = hashed(call, data, state);
-    if call < 97 {
-        let answer = h.answer;
-        return lines::number(rt, b"", answer.number() as u64);
-    }
-    lines::bytes(rt, b"", &h.digest)
 }

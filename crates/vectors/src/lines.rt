@@ -1,19 +1,15 @@
 // What is printed.
 use std::io;
 
-fn write(rt: &impl Print, text: &[u8]) -> io::Result<()> {
-    rt.write_all(text)
-}
-
 // A text and a number.
-pub(crate) fn number(rt: &impl Print, text: &[u8], n: u64) -> io::Result<()> {
-    write(rt, text)?;
+pub(crate) fn number(rt: &impl Print, text: &[u8], n: u32) -> io::Result<()> {
+    rt.write_all(text)?;
     print!(rt; "{n}")
 }
 
 // A text and bytes.
 pub(crate) fn bytes(rt: &impl Print, text: &[u8], bytes: &[u8]) -> io::Result<()> {
-    write(rt, text)?;
+    rt.write_all(text)?;
     for b in bytes {
         print!(rt; "{b:02x}")?;
     }
@@ -22,22 +18,22 @@ pub(crate) fn bytes(rt: &impl Print, text: &[u8], bytes: &[u8]) -> io::Result<()
 
 // The title of an answer, and its end; nothing where there is no title.
 pub(crate) fn title(rt: &impl Print, title: &[u8]) -> io::Result<()> {
-    if title.len() > 0 {
-        write(rt, title)?;
-        write(rt, b": ")?;
+    if !title.is_empty() {
+        rt.write_all(title)?;
+        rt.write_all(b": ")?;
     }
     Ok(())
 }
 
 pub(crate) fn end(rt: &impl Print, title: &[u8]) -> io::Result<()> {
-    if title.len() > 0 {
-        write(rt, b"\n")?;
+    if !title.is_empty() {
+        rt.write_all(b"\n")?;
     }
     Ok(())
 }
 
 pub(crate) fn not_understood(rt: &impl Print, line: &[u8]) -> io::Result<()> {
-    write(rt, b"not understood: ")?;
-    write(rt, line)?;
-    write(rt, b"\n")
+    rt.write_all(b"not understood: ")?;
+    rt.write_all(line)?;
+    rt.write_all(b"\n")
 }

@@ -15,7 +15,7 @@ mod text;
 
 use generator::Generator;
 use hash::Hasher;
-use parts::{ROOM, after, at, front, line_length, read_full, space};
+use parts::{ROOM, after, front, read_full, space};
 use std::io;
 use text::decode;
 
@@ -29,55 +29,32 @@ struct Held {
     generator: Generator,
 }
 
-// The fewest bytes that a line's letters ask for; more than a line may have where they name no call.
-fn least(letter: u8, call: u8) -> usize {
-    match letter {
-        b'H' => match call {
-            b'n' | b'e' | b'a' => 2,
-            b'g' => 8,
-            _ => MOST + 1,
-        },
-        b'h' => match call {
-            b's' | b'd' | b'f' | b'p' | b'A' | b'F' | b'P' => 0,
-            b'j' => 32,
-            _ => MOST + 1,
-        },
-        b'c' => match call {
-            b'w' => 33,
-            b'e' | b'x' => 48,
-            _ => MOST + 1,
-        },
-        b'w' => match call {
-            b'w' => 33,
-            b'e' | b'x' => 48,
-            b'p' => 49,
-            _ => MOST + 1,
-        },
-        b'G' => match call {
-            b'n' => 0,
-            b't' => 5,
-            b'k' => 48,
-            _ => MOST + 1,
-        },
-        b'g' => match call {
-            b's' => 0,
-            b'b' | b'r' => 3,
-            _ => MOST + 1,
-        },
-        _ => MOST + 1,
+// The fewest bytes that a line's letters ask for, where they name a call.
+// Kept: calls are the letters of the lines (an enum would say each letter a second time: `b'e' => ..` reads as the line does).
+fn least(letter: u8, call: u8) -> Option<usize> {
+    match (letter, call) {
+        (b'h', b's' | b'd' | b'f' | b'p' | b'A' | b'F' | b'P') => Some(0),
+        (b'G', b'n') | (b'g', b's') => Some(0),
+        (b'H', b'n' | b'e' | b'a') => Some(2),
+        (b'g', b'b' | b'r') => Some(3),
+        (b'G', b't') => Some(5),
+        (b'H', b'g') => Some(8),
+        (b'h', b'j') => Some(32),
+        (b'c' | b'w', b'w') => Some(33),
+        (b'c' | b'w', b'e' | b'x') | (b'G', b'k') => Some(48),
+        (b'w', b'p') => Some(49),
+        _ => None,
     }
 }
 
 // Whether a line with n bytes is a case: its letters name a call, which asks for no more bytes, and what is left is a title after
 // a space, or nothing where there is to be no title.
-fn is_case(line: &[u8], n: usize, left: &[u8]) -> bool {
-    if at(line, 2) != 32 || n < least(at(line, 0), at(line, 1)) {
-        return false;
-    }
-    if at(line, 0) < 97 {
-        return left.len() == 0;
-    }
-    at(left, 0) == 32
+fn is_case(letter: u8, call: u8, n: usize, left: &[u8]) -> bool {
+    let titled = match left {
+        [] => letter.is_ascii_uppercase(),
+        [first, ..] => !letter.is_ascii_uppercase() && *first == b' ',
+    };
+    titled && least(letter, call).is_some_and(|bytes| bytes <= n)
 }
 
 // The call of a case.
@@ -89,44 +66,41 @@ fn called(
     held: Held,
     out: &mut [u8; ROOM],
 ) -> io::Result<Held> {
-    let hasher = held.hasher;
-    let generator = held.generator;
-    if letter == b'h' {
-        hashes::answer(rt, call, data, hasher)?;
-        return Ok(held);
+    match letter {
+        b'h' => {
+            hashes::answer(rt, call, data, held.hasher)?;
+            Ok(held)
+        }
+        b'c' | b'w' => {
+            ciphers::answer(rt, letter, call, data)?;
+            Ok(held)
+        }
+        b'H' => Ok(Held {
+            hasher: hashes::set(call, data, held.hasher),
+            ..held
+        }),
+        _ => Ok(Held {
+            generator: generators::called(rt, call, data, held.generator, out)?,
+            ..held
+        }),
     }
-    if letter == b'c' || letter == b'w' {
-        ciphers::answer(rt, letter, call, data)?;
-        return Ok(held);
-    }
-    if letter == b'H' {
-        let next = hashes::set(call, data, hasher);
-        return Ok(Held {
-            hasher: next,
-            generator: generator,
-        });
-    }
-    let next = generators::called(rt, call, data, generator, out)?;
-    Ok(Held {
-        hasher: hasher,
-        generator: next,
-    })
 }
 
 // A line.
 fn case(rt: &impl Print, line: &[u8], held: Held, out: &mut [u8; ROOM]) -> io::Result<Held> {
-    let mut bytes = [0u8; MOST];
-    let fields = after(line, 3);
-    let n = decode(fields, &mut bytes);
-    let left = after(after(fields, n), n);
-    if !is_case(line, n, left) {
-        lines::not_understood(rt, line)?;
-        return Ok(held);
+    if let [letter, call, b' ', fields @ ..] = line {
+        let mut bytes = [0u8; MOST];
+        let n = decode(fields, &mut bytes);
+        let left = after(after(fields, n), n);
+        if is_case(*letter, *call, n, left) {
+            lines::title(rt, after(left, 1))?;
+            let next = called(rt, *letter, *call, front(&bytes, n), held, out)?;
+            lines::end(rt, left)?;
+            return Ok(next);
+        }
     }
-    lines::title(rt, after(left, 1))?;
-    let next = called(rt, at(line, 0), at(line, 1), front(&bytes, n), held, out)?;
-    lines::end(rt, left)?;
-    Ok(next)
+    lines::not_understood(rt, line)?;
+    Ok(held)
 }
 
 // All lines, each on what the ones before it left.
@@ -138,13 +112,8 @@ fn run(rt: &impl Print, input: &[u8], out: &mut [u8; ROOM]) -> io::Result<()> {
         hasher: Hasher::new(),
         generator: Generator::new(),
     };
-    let mut start = 0;
-    while start < input.len() {
-        let n = line_length(&input[start..]);
-        let end = start + n;
-        let next = case(rt, &input[start..end], held, out)?;
-        held = next;
-        start = end + 1;
+    for line in input.split_inclusive(|b| *b == b'\n') {
+        held = case(rt, line.strip_suffix(b"\n").unwrap_or(line), held, out)?;
     }
     Ok(())
 }

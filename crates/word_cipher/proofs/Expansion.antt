@@ -178,49 +178,36 @@ module _ (key : List ℕ) (n : length key ≡ 32) (b : Bytes key) where
 -- ---- the loops of the code
 
 -- the key's words are loaded
-pub loaded : (key w : List ℕ) (k : ℕ) → Filled (word_in key) 60 w k → k ≤ 8 → 8 ≤ k → take 8 w ≡ packed 8 key
+pub loaded : (key w : List ℕ) (k : ℕ) → Filled (word_in key) 60 w k → k ≡ 8 → take 8 w ≡ packed 8 key
 unfolding packed
-loaded key w k (b, l, e) low high = let m : k ≡ 8 = omega arith in rw m at e
+loaded key w k (b, l, e) m = rw m at e
 
--- the words before i are those of whatever key the first 8 words are: the loop no longer sees the key
+-- the words before the turn are those of whatever key the first 8 words are: the loop no longer sees the key
 abbrev pub Grown : List ℕ → List ℕ → ℕ → Type 0
-Grown w₀ w i = (8 ≤ i) × (i ≤ 56) × (i % 8 ≡ 0) × (length w ≡ 60)
-    × ((key : List ℕ) → length key ≡ 32 → Bytes key → take 8 w₀ ≡ packed 8 key → Stored (key_expansion key) w i)
+Grown w₀ w turn = (key : List ℕ) → length key ≡ 32 → Bytes key → take 8 w₀ ≡ packed 8 key → Stored (key_expansion key) w (8 * turn)
 
-pub grown-none : (w : List ℕ) → length w ≡ 60 → Grown w w 8
-grown-none w l = (
-  omega arith,
-  omega arith,
-  refl,
-  l,
-  λ key n b e j h. sym (get_or-take 8 w j 0 h) ∙ ap (λ (t : List ℕ). at t j) e ∙ packed-at 8 j key h ∙ key-words key n b j h,
-)
+pub grown-none : (w : List ℕ) → Grown w w 1
+grown-none w key n b e j h =
+    sym (get_or-take 8 w j 0 h) ∙ ap (λ (t : List ℕ). at t j) e ∙ packed-at 8 j key h ∙ key-words key n b j h
 
-pub grown-more : (w₀ w w₁ w₂ : List ℕ) (i r p : ℕ) → Grown w₀ w i → i < 56
-    → r ≡ rotated_temp i (at w (i - 1)) → w₁ ≡ four_more w i r
-    → p ≡ sub_words (at w₁ (i + 3)) 0 1 2 3 → w₂ ≡ four_more w₁ (i + 4) p
-    → Grown w₀ w₂ (i + 8)
-grown-more w₀ w w₁ w₂ i r p (low, high, q, l, g) h er e1 ep e2 =
-    let l1 : length w₁ ≡ 60 = ap length e1 ∙ length-four w i r ∙ l in
-    let l2 : length w₂ ≡ 60 = ap length e2 ∙ length-four w₁ (i + 4) p ∙ l1 in
-    let m : i + 4 + 4 ≡ i + 8 = omega arith in
-    let k : i + 3 ≡ i + 4 - 1 = omega arith in (
-      omega arith,
-      omega arith,
-      omega arith,
-      l2,
-      λ key n b e.
-          let s1 : Stored (key_expansion key) w₁ (i + 4) = rw (← e1) at (rotated-four key n b w i r low high q l (g key n b e) er) in
-          rw (m, ← e2) at (plain-four key n b w₁ (i + 4) p (omega arith) (omega arith) (omega arith) l1 s1 (rw k at ep)),
-    )
+pub grown-more : (w₀ w w₁ w₂ : List ℕ) (turn r p : ℕ) → Grown w₀ w turn → 1 ≤ turn → turn < 7 → length w ≡ 60
+    → r ≡ rotated_temp (8 * turn) (at w (8 * turn - 1)) → w₁ ≡ four_more w (8 * turn) r
+    → p ≡ sub_words (at w₁ (8 * turn + 3)) 0 1 2 3 → w₂ ≡ four_more w₁ (8 * turn + 4) p
+    → Grown w₀ w₂ (turn + 1)
+grown-more w₀ w w₁ w₂ turn r p g low high l er e1 ep e2 key n b e =
+    let l1 : length w₁ ≡ 60 = ap length e1 ∙ length-four w (8 * turn) r ∙ l in
+    let m : 8 * (turn + 1) ≡ 8 * turn + 4 + 4 = omega arith in
+    let k : 8 * turn + 3 ≡ 8 * turn + 4 - 1 = omega arith in
+    let s1 : Stored (key_expansion key) w₁ (8 * turn + 4)
+    = rw (← e1) at (rotated-four key n b w (8 * turn) r (omega arith) (omega arith) (omega arith) l (g key n b e) er) in
+    rw (m, e2) (plain-four key n b w₁ (8 * turn + 4) p (omega arith) (omega arith) (omega arith) l1 s1 (rw k at ep))
 
-pub grown-all : (w₀ w w₁ : List ℕ) (i r : ℕ) → Grown w₀ w i → 56 ≤ i
+pub grown-all : (w₀ w w₁ : List ℕ) (turn r : ℕ) → Grown w₀ w turn → turn ≡ 7 → length w ≡ 60
     → r ≡ rotated_temp 56 (at w 55) → w₁ ≡ four_more w 56 r → Expands w₀ w₁
 unfolding packed
-grown-all w₀ w w₁ i r (low, high, q, l, g) h er e1 key n b e =
-    let i56 : i ≡ 56 = omega arith in
+grown-all w₀ w w₁ turn r g h l er e1 key n b e =
     let s : List ℕ = key_expansion key in
-    let s0 : Stored s w 56 = rw i56 at (g key n b e) in
+    let s0 : Stored s w 56 = rw h at (g key n b e) in
     let s1 : Stored s w₁ 60 = rw (← e1) at (rotated-four key n b w 56 r (omega arith) (omega arith) refl l s0 er) in
     let l1 : length w₁ ≡ 60 = ap length e1 ∙ length-four w 56 r ∙ l in
     ext_get_or 0 w₁ (tabulate (word_in s) 60) (l1 ∙ sym (length-tabulate (word_in s) 60))

@@ -2,15 +2,16 @@
 ghost use Rattle.std.specs.Prelude.{◌≡◌, ◌<◌};
 ghost use Rattle.laws.specs.Lists.{overwrite};
 ghost use Rattle.cipher.specs.Aes.{cipher_with, cipher};
-ghost use Rattle.word_cipher.specs.Words.{word_in, packed, unpacked};
+ghost use Rattle.word_cipher.specs.Words.{packed, unpacked};
 ghost use Rattle.word_cipher.specs.Cipher.{mixed_word, substituted, last_word, add_words, word_round, last_round, word_cipher};
 
 use crate::key::{Schedule, expand_key};
 use crate::table::tables;
-use crate::word::{byte_of, word_of};
+use crate::word::{byte_of, word_in, word_of};
 use laws::overwrite;
 
 // A mixed column, from the words that hold its four bytes.
+#[tactic(auto, unfolding(crate::specs::Cipher::mixed_word))]
 fn mixed_word(t: &[u32; 1024], p: u32, q: u32, r: u32, s: u32) -> u32
     ensures { result ≡ mixed_word t.now p q r s }
 {
@@ -22,6 +23,7 @@ fn mixed_word(t: &[u32; 1024], p: u32, q: u32, r: u32, s: u32) -> u32
 }
 
 // The substitution of a byte stands in the first table, as its entries' second byte.
+#[tactic(auto, unfolding(crate::specs::Cipher::substituted))]
 fn substituted(t: &[u32; 1024], x: u8) -> u8
     ensures { result ≡ substituted t.now x }
 {
@@ -29,6 +31,7 @@ fn substituted(t: &[u32; 1024], x: u8) -> u8
 }
 
 // A column of the last round, which mixes none.
+#[tactic(auto, unfolding(crate::specs::Cipher::last_word))]
 fn last_word(t: &[u32; 1024], p: u32, q: u32, r: u32, s: u32) -> u32
     ensures { result ≡ last_word t.now p q r s }
 {
@@ -39,14 +42,12 @@ fn last_word(t: &[u32; 1024], p: u32, q: u32, r: u32, s: u32) -> u32
     word_of(a, b, c, d)
 }
 
+#[tactic(auto, unfolding(crate::specs::Cipher::word_round, crate::specs::Cipher::add_words, crate::specs::Cipher::columns, laws::specs::Lists::tabulate))]
 fn round(t: &[u32; 1024], w: &[u32; 60], n: usize, u: [u32; 4]) -> [u32; 4]
     requires { n < 15 }
     ensures { result ≡ word_round t.now w.now n u }
 {
-    let a = u[0];
-    let b = u[1];
-    let c = u[2];
-    let d = u[3];
+    let [a, b, c, d] = u;
     [
         mixed_word(t, a, b, c, d) ^ w[4 * n],
         mixed_word(t, b, c, d, a) ^ w[4 * n + 1],
@@ -55,13 +56,11 @@ fn round(t: &[u32; 1024], w: &[u32; 60], n: usize, u: [u32; 4]) -> [u32; 4]
     ]
 }
 
+#[tactic(auto, unfolding(crate::specs::Cipher::last_round, crate::specs::Cipher::add_words, crate::specs::Cipher::columns, laws::specs::Lists::tabulate))]
 fn last_round(t: &[u32; 1024], w: &[u32; 60], u: [u32; 4]) -> [u32; 4]
     ensures { result ≡ last_round t.now w.now u }
 {
-    let a = u[0];
-    let b = u[1];
-    let c = u[2];
-    let d = u[3];
+    let [a, b, c, d] = u;
     [
         last_word(t, a, b, c, d) ^ w[56],
         last_word(t, b, c, d, a) ^ w[57],
@@ -70,22 +69,16 @@ fn last_round(t: &[u32; 1024], w: &[u32; 60], u: [u32; 4]) -> [u32; 4]
     ]
 }
 
-fn block_word(s: [u8; 16], i: usize) -> u32
-    requires { i < 4 }
-    ensures { result ≡ word_in s i }
-{
-    word_of(s[4 * i], s[4 * i + 1], s[4 * i + 2], s[4 * i + 3])
-}
-
 // The block's words, with the first round key added.
+#[tactic(auto, unfolding(crate::specs::Cipher::add_words, crate::specs::Words::packed, laws::specs::Lists::tabulate))]
 fn whiten(w: &[u32; 60], s: [u8; 16]) -> [u32; 4]
     ensures { result ≡ add_words w.now 0 (packed 4 s) }
 {
     [
-        block_word(s, 0) ^ w[0],
-        block_word(s, 1) ^ w[1],
-        block_word(s, 2) ^ w[2],
-        block_word(s, 3) ^ w[3],
+        word_in(&s, 0) ^ w[0],
+        word_in(&s, 1) ^ w[1],
+        word_in(&s, 2) ^ w[2],
+        word_in(&s, 3) ^ w[3],
     ]
 }
 
@@ -94,22 +87,22 @@ fn unpack(u: [u32; 4]) -> [u8; 16]
 {
     let mut r = [0u8; 16];
     for i in 0..16 {
-        r[i] = byte_of(u[i / 4], (i % 4) as u32);
+        r[i] = byte_of(u[i / 4], i % 4);
     }
     r
 }
 
 // A block under an expanded key, with the tables lent. Two rounds a turn.
+// Kept: (a) the tables are a parameter, here and in what this calls: this clause and write_block's hold for every table t.
 pub fn encrypt_by(t: &[u32; 1024], w: &[u32; 60], block: [u8; 16]) -> [u8; 16]
     ensures { result ≡ word_cipher t.now w.now block }
 {
     let mut u = whiten(w, block);
-    let mut n: usize = 1;
-    while n < 13 {
-        let middle = round(t, w, n, u);
-        let next = round(t, w, n + 1, middle);
+    for turn in 0..6 {
+        let middle = round(t, w, 2 * turn + 1, u);
+        // Kept: (c) `u = round(.., u)` is not proved, since u is an array that the call is passed too.
+        let next = round(t, w, 2 * turn + 2, middle);
         u = next;
-        n = n + 2;
     }
     unpack(last_round(t, w, round(t, w, 13, u)))
 }
@@ -122,12 +115,11 @@ pub fn write_block(t: &[u32; 1024], w: &[u32; 60], block: [u8; 16], out: &mut [u
     overwrite(out, &enciphered);
 }
 
-// A block under an expanded key, whatever words stand in it. The tables are built for this block alone.
+// A block under an expanded key, whatever words stand in it.
 pub fn encrypt_with(schedule: Schedule, block: [u8; 16]) -> [u8; 16]
     ensures { result ≡ cipher_with (unpacked 240 schedule.words) block }
 {
-    let t = tables();
-    encrypt_by(&t, &schedule.words, block)
+    encrypt_by(tables(), &schedule.words, block)
 }
 
 // A block under a key.

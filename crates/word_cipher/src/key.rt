@@ -1,29 +1,22 @@
 // The key schedule as 60 words.
 ghost use Rattle.std.specs.Prelude.{◌≡◌, ◌<◌, ◌≤◌, ◌-◌, length};
-ghost use Rattle.cipher.specs.Field.{sub_byte, s_box};
 ghost use Rattle.cipher.specs.Aes.{x_power, key_expansion};
-ghost use Rattle.word_cipher.specs.Words.{word_in, packed};
+ghost use Rattle.word_cipher.specs.Words.{packed};
 ghost use Rattle.word_cipher.specs.Schedule.{sub_words, rotated_temp, four_more, Expands};
 
-use crate::word::{byte_of, word_of};
-
-// The substitution of a byte, read from the S-box.
-fn sub_byte(s: &[u8; 256], x: u8) -> u8
-    requires { s.now ≡ s_box }
-    ensures { result ≡ sub_byte x }
-{
-    s[x as usize]
-}
+use crate::word::{byte_of, word_in, word_of};
+use cipher::sub_byte;
 
 // SubWord of the word whose bytes are bytes i, j, k and l of x.
-fn sub_word(s: &[u8; 256], x: u32, i: u32, j: u32, k: u32, l: u32) -> u32
-    requires { (s.now ≡ s_box) × (i < 4) × (j < 4) × (k < 4) × (l < 4) }
+#[tactic(auto, unfolding(crate::specs::Schedule::sub_words))]
+fn sub_word(x: u32, i: usize, j: usize, k: usize, l: usize) -> u32
+    requires { (i < 4) × (j < 4) × (k < 4) × (l < 4) }
     ensures { result ≡ sub_words x i j k l }
 {
-    let a = sub_byte(s, byte_of(x, i));
-    let b = sub_byte(s, byte_of(x, j));
-    let c = sub_byte(s, byte_of(x, k));
-    let d = sub_byte(s, byte_of(x, l));
+    let a = sub_byte(byte_of(x, i));
+    let b = sub_byte(byte_of(x, j));
+    let c = sub_byte(byte_of(x, k));
+    let d = sub_byte(byte_of(x, l));
     word_of(a, b, c, d)
 }
 
@@ -36,16 +29,18 @@ fn round_constant(n: usize) -> u32
 }
 
 // temp of KeyExpansion at word i, where 8 divides i, from the word before: with RotWord and the round constant.
-fn rotated_temp(s: &[u8; 256], i: usize, x: u32) -> u32
-    requires { (8 ≤ i) × (i < 60) × (s.now ≡ s_box) }
+#[tactic(auto, unfolding(crate::specs::Schedule::rotated_temp))]
+fn rotated_temp(i: usize, x: u32) -> u32
+    requires { (8 ≤ i) × (i < 60) }
     ensures { result ≡ rotated_temp i x }
 {
-    sub_word(s, x, 1, 2, 3, 0) ^ round_constant(i / 8)
+    sub_word(x, 1, 2, 3, 0) ^ round_constant(i / 8)
 }
 
 // Words i to i + 3, from temp at i.
+#[tactic(auto, unfolding(crate::specs::Schedule::four_more))]
 fn four_more(w: &mut [u32; 60], i: usize, temp: u32)
-    requires { (8 ≤ i) × (i ≤ 56) × (length w.old ≡ 60) }
+    requires { (8 ≤ i) × (i ≤ 56) }
     ensures { w.new ≡ four_more w.old i temp }
 {
     let a = w[i - 8] ^ temp;
@@ -58,28 +53,18 @@ fn four_more(w: &mut [u32; 60], i: usize, temp: u32)
     w[i + 3] = d;
 }
 
-fn key_word(key: [u8; 32], i: usize) -> u32
-    requires { i < 8 }
-    ensures { result ≡ word_in key i }
-{
-    word_of(key[4 * i], key[4 * i + 1], key[4 * i + 2], key[4 * i + 3])
-}
-
 // Words 8 to 59, from the key's own: eight a turn.
 fn grow(words: &mut [u32; 60])
-    requires { length words.old ≡ 60 }
     ensures { Expands words.old words.new }
 {
-    let s = cipher::s_box();
-    let mut i: usize = 8;
-    while i < 56 {
-        let rotated = rotated_temp(&s, i, words[i - 1]);
+    for turn in 1..7 {
+        let i = 8 * turn;
+        let rotated = rotated_temp(i, words[i - 1]);
         four_more(words, i, rotated);
-        let plain = sub_word(&s, words[i + 3], 0, 1, 2, 3);
+        let plain = sub_word(words[i + 3], 0, 1, 2, 3);
         four_more(words, i + 4, plain);
-        i = i + 8;
     }
-    let last = rotated_temp(&s, 56, words[55]);
+    let last = rotated_temp(56, words[55]);
     four_more(words, 56, last);
 }
 
@@ -96,7 +81,7 @@ pub fn expand_key(key: [u8; 32]) -> Schedule
 {
     let mut words = [0u32; 60];
     for k in 0..8 {
-        words[k] = key_word(key, k);
+        words[k] = word_in(&key, k);
     }
     grow(&mut words);
     Schedule { words }

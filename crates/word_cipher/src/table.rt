@@ -2,16 +2,15 @@
 ghost use Rattle.std.specs.Prelude.{◌≡◌};
 ghost use Rattle.word_cipher.specs.Tables.{tables};
 
-// The tables side by side, so that a round keeps one address. A constant is built anew wherever it is used: whoever enciphers builds
-// them once and lends them.
-pub fn tables() -> [u32; 1024]
-    ensures { result ≡ tables }
+// The tables side by side, so that a round keeps one address.
+pub fn tables() -> &'static [u32; 1024]
+    ensures { result.now ≡ tables }
 {
-    TABLES
+    &TABLES
 }
 
 // The table of row 0, then those of rows 1, 2 and 3.
-const TABLES: [u32; 1024] = [
+static TABLES: [u32; 1024] = [
     0xa563_63c6,
     0x847c_7cf8,
     0x9977_77ee,

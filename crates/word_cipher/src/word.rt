@@ -1,17 +1,27 @@
 // Words of four bytes, the first the least significant: a column of the state, or a word of the schedule.
-ghost use Rattle.std.specs.Prelude.{◌≡◌, ◌<◌};
-ghost use Rattle.word_cipher.specs.Words.{word, byte_of};
+ghost use Rattle.std.specs.Prelude.{◌≡◌, ◌+◌, ◌*◌, ◌<◌, length};
+ghost use Rattle.word_cipher.specs.Words.{word, byte_of, word_in};
 
+#[tactic(auto, unfolding(crate::specs::Words::word))]
 pub(crate) fn word_of(a: u8, b: u8, c: u8, d: u8) -> u32
     ensures { result ≡ word a b c d }
 {
-    ((d as u32 * 256 + c as u32) * 256 + b as u32) * 256 + a as u32
+    u32::from_le_bytes([a, b, c, d])
 }
 
 // Byte k of a word.
-pub(crate) fn byte_of(x: u32, k: u32) -> u8
+#[tactic(auto, unfolding(crate::specs::Words::byte_of))]
+pub(crate) fn byte_of(x: u32, k: usize) -> u8
     requires { k < 4 }
     ensures { result ≡ byte_of x k }
 {
-    ((x >> (8 * k)) % 256) as u8
+    x.to_le_bytes()[k]
+}
+
+// Word i of a list of bytes.
+pub(crate) fn word_in(s: &[u8], i: usize) -> u32
+    requires { 4 * i + 3 < length s.now }
+    ensures { result ≡ word_in s.now i }
+{
+    word_of(s[4 * i], s[4 * i + 1], s[4 * i + 2], s[4 * i + 3])
 }

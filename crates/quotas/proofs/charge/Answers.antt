@@ -1,12 +1,18 @@
-use Rattle.quotas.proofs.Walks.{charge-listed, charge-unlisted}
+use Rattle.std.proofs.Common.{Ok, Err}
+use Rattle.quotas.proofs.Charging.{charge-listed, charge-unlisted}
 use Rattle.quotas.proofs.charge.Goals as goal
 
-pub returns-then-i-list : goal.returns-then-i-list
-returns-then-i-list c =
-    charge-listed c.args.list.now c.args.source c.args.cost c.args.number c.find-i.result c.judge-v.result
-    c.find-i.ensures c.if-i-list.true c.judge-v.ensures
+pub returns-then-place-list : goal.returns-then-place-list
+returns-then-place-list c =
+    charge-unlisted c.args.list.now c.args.source c.args.cost c.args.number c.find-place.result c.unlisted.result
+    c.find-place.ensures c.if-place-list.true c.unlisted.ensures
 
-pub returns : goal.returns
-returns c =
-    charge-unlisted c.args.list.now c.args.source c.args.cost c.args.number c.find-i.result c.unlisted.result
-    c.find-i.ensures c.if-i-list.false c.unlisted.ensures
+pub returns-in-Ok : goal.returns-in-Ok
+returns-in-Ok c =
+    charge-listed c.args.list.now c.args.source c.args.cost c.args.number c.find-place.result (Ok c.in-Ok.charged)
+    c.find-place.ensures c.if-place-list.false c.in-Ok.ensures
+
+pub returns-in-Err : goal.returns-in-Err
+returns-in-Err c =
+    charge-listed c.args.list.now c.args.source c.args.cost c.args.number c.find-place.result (Err c.in-Err.refusal)
+    c.find-place.ensures c.if-place-list.false c.in-Err.ensures

@@ -14,5 +14,5 @@ pub returns : goal.returns
 returns c =
     let a = c.args in
     let full : length a.text.now ≡ 259 = search rules in
-    finishes-some a.state a.text.now a.held _ a.out.now _ c.line-o.result
-    c.if-held-eq0.false (omega arith) c.held_line.ensures c.line-o.ensures
+    finishes-some a.state a.text.now a.held _ a.out.now _ c.line.result
+    c.if-held-eq0.false (omega arith) c.held_line.ensures c.line.ensures

@@ -6,12 +6,12 @@ use Rattle.bench.proofs.Executed.{write-lends, emptied-small, output-prints}
 use Rattle.pools.proofs.Bounds.{answer-small}
 use Rattle.bench.proofs.line.write_line.Goals as goal
 
-pub output_line-written-requires : goal.output_line-written-requires
+pub output_line-requires : goal.output_line-requires
 unfolding zeros seed_size
-output_line-written-requires c =
+output_line-requires c =
     let a = c.args in
     let call = c.write_seed-outcome in (
-      rw c.number.ensures (answer-small call.result.answer),
+      rw c.number_of.ensures (answer-small call.result.answer),
       emptied-small a.state (write a.clock (zeros seed_size)) call.result call.ensures.0,
       search rules,
     )
@@ -22,4 +22,4 @@ returns c =
     let a = c.args in
     let call = c.write_seed-outcome in
     output-prints a.state (write a.clock (zeros seed_size)) call.result _ _ _ a.out.now _
-    (write-lends a.clock (zeros seed_size)) call.ensures c.number.ensures (search rules) c.output_line-written.ensures
+    (write-lends a.clock (zeros seed_size)) call.ensures c.number_of.ensures (search rules) c.output_line.ensures

@@ -2,7 +2,6 @@ use Prim.Native.Nat.{ℕ, suc, ◌+◌, ◌-◌, ◌≤◌}
 use mathlib.Core.Path.{◌≡◌, refl}
 use mathlib.Core.List.{List}
 use native.Mathlib.Omega.{arith}
-use borrow.Author.Rules.{rules}
 use Rattle.cipher.specs.Aes.{round, rounds, cipher_with}
 use Rattle.cipher.proofs.block.encrypt_block.Goals as goal
 
@@ -16,17 +15,17 @@ rounds-more w s₀ s next n h e f =
 
 pub loop-n-init : goal.loop-n-init
 unfolding rounds
-loop-n-init c = (search rules, search rules, refl)
+loop-n-init c = refl
 
 pub loop-n-preserved : goal.loop-n-preserved
 loop-n-preserved c =
     let l = c.loop-n in
-    (search rules, search rules, rounds-more _ _ _ _ l.n l.invariant.0 l.invariant.2 c.round-next.ensures)
+    rounds-more _ _ _ _ l.n (omega arith) l.invariant c.round-next.ensures
 
 pub returns : goal.returns
 unfolding cipher_with
 returns c =
     let l = c.loop-n in
     let n : l.n ≡ 14 = omega arith in
-    let e = rw n at l.invariant.2 in
+    let e = rw n at l.invariant in
     cc

@@ -10,8 +10,8 @@ slice_bounds-convert_line-end c =
     let a = c.args in
     sym (length-take-le _ a.rest.now (first-within a.rest.now _ c.line_length-n.ensures))
 
-pub overflow_add-used : goal.overflow_add-used
-overflow_add-used c =
+pub overflow_add-result : goal.overflow_add-result
+overflow_add-result c =
     let a = c.args in
     let used = first-used a.rest.now _ c.line_length-n.ensures _ c.end_size.ensures in
     omega (arith, used, used-fits a.rest.now)
@@ -19,4 +19,4 @@ overflow_add-used c =
 pub returns : goal.returns
 returns c =
     let a = c.args in
-    first-converted a.rest.now _ c.line_length-n.ensures _ c.end_size.ensures a.wide a.out.now _ _ c.convert_line-o.ensures
+    first-converted a.rest.now _ c.line_length-n.ensures _ c.end_size.ensures a.wide a.out.now _ _ c.convert_line.ensures

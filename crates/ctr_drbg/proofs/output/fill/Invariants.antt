@@ -1,17 +1,13 @@
 use mathlib.Core.Path.{◌≡◌}
-use Prim.Native.Nat.{◌+◌, ◌-◌, ◌/◌, ◌%◌, ◌≤◌}
 use lib.ListN.{length}
 use Rattle.laws.proofs.Parts.{over}
 use Rattle.word_cipher.specs.Cipher.{word_cipher}
+use Rattle.word_cipher.specs.Tables.{tables}
 use Rattle.ctr_drbg.specs.Closed.{after, enciphered}
 use Rattle.ctr_drbg.proofs.output.fill.Given as goal
 
--- the blocks before `at` are laid over the buffer
-abbrev pub invariant-loop-at : goal.invariant-loop-at
-invariant-loop-at l =
-    (l.at % 16 ≡ 0) × (l.at ≤ length l.initial.out + 15) × (length l.out ≡ length l.initial.out)
-    × (l.out ≡ over (enciphered (word_cipher l.t l.words) l.initial.last (l.at / 16)) l.initial.out)
-    × (l.last ≡ after l.initial.last (l.at / 16))
-
-abbrev pub decreases-loop-at : goal.decreases-loop-at
-decreases-loop-at l = length l.initial.out + 15 - l.at
+-- the first k blocks are laid over the buffer
+abbrev pub invariant-loop-k : goal.invariant-loop-k
+invariant-loop-k l =
+    (length l.out ≡ length l.initial.out) × (l.out ≡ over (enciphered (word_cipher tables l.words) l.initial.last l.k) l.initial.out)
+    × (l.last ≡ after l.initial.last l.k)

@@ -1,4 +1,4 @@
-use Prim.Native.Nat.{◌-◌, ◌*◌, ◌≤◌}
+use Rattle.std.proofs.Common.{◌-◌, ◌*◌, ◌≤◌}
 use Rattle.pools.specs.Refusals.{max_tries}
 use Rattle.pools.specs.Draws.{shuffle_from, try_at}
 use Rattle.draws.proofs.Trying.{Ready}
@@ -6,11 +6,8 @@ use Rattle.draws.proofs.Shuffling.{LeftList}
 use Rattle.draws.proofs.shuffles.shuffle_from.Given as goal
 
 abbrev pub invariant-loop-p : goal.invariant-loop-p
-invariant-loop-p l =
-    (l.p ≤ l.last)
-    × (l.emptied ≤ 2048 * (l.last - l.p))
-    × Ready l.state l.clock (max_tries * l.p)
-    × LeftList (shuffle_from (try_at l.clock) l.last l.initial.order l.initial.state) l.emptied (shuffle_from (try_at l.clock) l.p l.order l.state)
-
-abbrev pub decreases-loop-p : goal.decreases-loop-p
-decreases-loop-p l = l.p
+invariant-loop-p l = record {
+  emptied : l.emptied ≤ 2048 * (l.last - l.p);
+  ready : Ready l.state l.clock (max_tries * l.p);
+  left : LeftList (shuffle_from (try_at l.clock) l.last l.initial.order l.initial.state) l.emptied (shuffle_from (try_at l.clock) l.p l.order l.state);
+}

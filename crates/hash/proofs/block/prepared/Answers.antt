@@ -7,7 +7,7 @@ pub loop-t-init : goal.loop-t-init
 loop-t-init c = filled_none _ 64 (replicate 64 0) refl
 
 pub loop-t-preserved : goal.loop-t-preserved
-loop-t-preserved c = filled_more _ 64 _ _ _ c.loop-t.invariant (omega arith) c.prepared_word.ensures
+loop-t-preserved c = filled_more _ 64 _ _ _ c.loop-t.invariant (omega arith) (rw c.constants-k.ensures cc)
 
 pub returns : goal.returns
 unfolding prepared

@@ -1,13 +1,6 @@
-use Rattle.std.proofs.Common.{◌*◌, replicate, arith, rules}
-use Rattle.laws.proofs.Tabulate.{filled_none, filled_more, filled-all}
-use Rattle.hash.specs.Padding.{length_byte}
+use Rattle.std.proofs.Common.{◌∙◌}
+use Rattle.hash.proofs.BigEndian.{length-bytes}
 use Rattle.hash.proofs.bytes.length_bytes.Goals as goal
 
-pub loop-i-init : goal.loop-i-init
-loop-i-init c = filled_none (length_byte (8 * c.args.count)) 8 (replicate 8 0) (search rules)
-
-pub loop-i-preserved : goal.loop-i-preserved
-loop-i-preserved c = filled_more _ _ _ _ _ c.loop-i.invariant (omega arith) c.length_byte.ensures
-
 pub returns : goal.returns
-returns c = filled-all _ _ _ _ c.loop-i.invariant (omega arith)
+returns c = c.to_be_bytes.ensures ∙ length-bytes c.args.count

@@ -14,5 +14,5 @@ digest_of-requires c = search rules
 
 pub returns : goal.returns
 returns c =
-    let finished = c.finished-d in
+    let finished = c.finished in
     c.digest_of.ensures ∙ rw finished.ensures (pool-digest-counted _ _ (omega arith))

@@ -5,11 +5,11 @@ use Rattle.hash.proofs.tail.filled.Goals as goal
 pub slice_bounds-overwrite-end-2 : goal.slice_bounds-overwrite-end-2
 slice_bounds-overwrite-end-2 c =
     let a = c.args in
-    let n : length a.tail ≡ 64 = search rules in
-    sym (length-take-le a.at a.tail (omega arith))
+    let n : length a.tail.now ≡ 64 = search rules in
+    sym (length-take-le a.at a.tail.now (omega arith))
 
 pub returns : goal.returns
 returns c =
     let a = c.args in
-    let n : length a.tail ≡ 64 = search rules in
-    filled_is a.tail a.s.now c.overwrite.new.out c.overwrite-2.new.out a.at n (omega arith) c.overwrite.ensures c.overwrite-2.ensures
+    let n : length a.tail.now ≡ 64 = search rules in
+    filled_is a.tail.now a.s.now c.overwrite.new.out c.overwrite-2.new.out a.at n (omega arith) c.overwrite.ensures c.overwrite-2.ensures

@@ -4,5 +4,5 @@ use Rattle.keyed.proofs.Keyed.serve.Goals as goal
 pub returns : goal.returns
 returns c =
     let a = c.args in
-    serve_is a.self a.generator a.out.now c.requires _ _ _ c.pseudo_random_data-outcome.ensures.1 c.pseudo_random_data-outcome.ensures.2
-    c.counted-count.ensures
+    let made = c.pseudo_random_data in
+    serve_is a.self.now a.out.now c.requires _ _ _ made.ensures.1 made.ensures.2 c.counted-self.ensures

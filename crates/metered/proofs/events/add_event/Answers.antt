@@ -1,8 +1,13 @@
+use Rattle.pools.specs.Effects.{with_pool}
+use Rattle.pools.proofs.EventCalls.{gain-place}
 use Rattle.metered.proofs.Eventing.{stored-gain}
 use Rattle.metered.proofs.events.add_event.Goals as goal
 
+pub bounds-state-gain : goal.bounds-state-gain
+bounds-state-gain c = gain-place _ _ c.gain_of-gain.ensures.0.2
+
 pub returns : goal.returns
+unfolding with_pool
 returns c =
     let a = c.args in
-    stored-gain a.state a.list.now a.source a.pool a.«data».now c.gain_of-gain.result c.stored.result c.gain_of-gain.new.list c.gain_of-gain.ensures
-    c.stored.ensures
+    stored-gain a.state a.list.now a.source a.pool a.«data».now c.gain_of-gain.result c.gain_of-gain.new.list c.gain_of-gain.ensures

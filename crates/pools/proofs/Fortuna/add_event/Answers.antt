@@ -1,13 +1,10 @@
-use Rattle.std.proofs.Common.{sym, rules}
+use Rattle.std.proofs.Common.{sym}
 use Rattle.pools.specs.Effects.{with_pool}
 use Rattle.pools.proofs.EventCalls.{gain-place}
 use Rattle.pools.proofs.Fortuna.add_event.Goals as goal
 
-pub offset_bounds-self-place : goal.offset_bounds-self-place
-offset_bounds-self-place c = search (rules, gain-place _ _ c.gain_of-gain.ensures.2)
-
-pub bounds-self-place : goal.bounds-self-place
-bounds-self-place c = search (rules, gain-place _ _ c.gain_of-gain.ensures.2)
+pub bounds-self-gain : goal.bounds-self-gain
+bounds-self-gain c = gain-place _ _ c.gain_of-gain.ensures.2
 
 pub returns : goal.returns
 unfolding with_pool

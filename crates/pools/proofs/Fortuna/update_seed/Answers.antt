@@ -1,32 +1,32 @@
 use Rattle.pools.specs.Effects.{update_seed}
 use Rattle.pools.specs.Calls.{update, input_buffer, call_number, call_effect}
-use Rattle.pools.proofs.Outcomes.{is-accepted, gives-done, gives-kept, update-number}
+use Rattle.pools.proofs.Numbers.{tested}
+use Rattle.pools.proofs.Outcomes.{is-accepted, gives-done, gives-kept, update-number, timed}
 use Rattle.pools.proofs.Servables.{update-servable, update-serves}
 use Rattle.pools.proofs.Fortuna.update_seed.Goals as goal
 
-pub serve-served-requires : goal.serve-served-requires
+pub serve-emptied-requires : goal.serve-emptied-requires
 unfolding call_number
-serve-served-requires c =
+serve-emptied-requires c =
     let a = c.args in
-    let formed = c.is_malformed-malformed.ensures in
-    let number = update-number a.self a.clock _ _ _ formed c.is_due-reseeds.ensures a.seed.now c.update_answer-answer.ensures in
-    let ok = is-accepted a.self (update a.clock a.seed.now) _ _ number c.is_done.ensures c.if-is_done.true in
-    update-servable a.self a.clock a.seed.now ok _ _ c.is_due-reseeds.ensures c.reseed-outcome.ensures.1
+    let stands = c.standing-standing.ensures in
+    let number = update-number a.self a.clock _ _ stands a.seed.now c.update_answer-answer.ensures in
+    let ok = is-accepted a.self (update a.clock a.seed.now) _ _ number (tested _ _ c.is_ok.ensures.value) c.if-is_ok.true in
+    update-servable a.self a.clock a.seed.now ok _ _ (timed a.self a.clock _ 0 stands) c.reseed.ensures.1
 
-pub returns-then-is_done : goal.returns-then-is_done
+pub returns-then-is_ok : goal.returns-then-is_ok
 unfolding call_number call_effect update_seed
-returns-then-is_done c =
+returns-then-is_ok c =
     let a = c.args in
-    let formed = c.is_malformed-malformed.ensures in
-    let number = update-number a.self a.clock _ _ _ formed c.is_due-reseeds.ensures a.seed.now c.update_answer-answer.ensures in
-    let ok = is-accepted a.self (update a.clock a.seed.now) _ _ number c.is_done.ensures c.if-is_done.true in
-    gives-done a.self (update a.clock a.seed.now) _ _ number c.is_done.ensures tt _ _ _ c.if-is_done.true
-    (update-serves a.self a.clock a.seed.now ok _ c.reseed-outcome.ensures.1 _ _ _ c.serve-served.ensures)
+    let number = update-number a.self a.clock _ _ c.standing-standing.ensures a.seed.now c.update_answer-answer.ensures in
+    let done = tested _ _ c.is_ok.ensures.value in
+    let ok = is-accepted a.self (update a.clock a.seed.now) _ _ number done c.if-is_ok.true in
+    gives-done a.self (update a.clock a.seed.now) _ _ number done tt _ _ _ c.if-is_ok.true
+    (update-serves a.self a.clock a.seed.now ok _ c.reseed.ensures.1 _ _ _ c.serve-emptied.ensures)
 
-pub returns-else-is_done : goal.returns-else-is_done
+pub returns-else-is_ok : goal.returns-else-is_ok
 unfolding input_buffer
-returns-else-is_done c =
+returns-else-is_ok c =
     let a = c.args in
-    let formed = c.is_malformed-malformed.ensures in
-    let number = update-number a.self a.clock _ _ _ formed c.is_due-reseeds.ensures a.seed.now c.update_answer-answer.ensures in
-    gives-kept a.self (update a.clock a.seed.now) _ _ number c.is_done.ensures tt c.if-is_done.false
+    let number = update-number a.self a.clock _ _ c.standing-standing.ensures a.seed.now c.update_answer-answer.ensures in
+    gives-kept a.self (update a.clock a.seed.now) _ _ number (tested _ _ c.is_ok.ensures.value) tt c.if-is_ok.false

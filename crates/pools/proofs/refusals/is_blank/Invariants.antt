@@ -1,13 +1,8 @@
-use Rattle.std.proofs.Common.{ℕ, ◌-◌, ◌≤◌, List, replicate}
-use Rattle.pools.proofs.Bits.{Compared}
+use Rattle.std.proofs.Common.{◌≡◌, take}
+use Rattle.std.specs.List.{fold}
+use lib.Bits.{bit_or, bit_xor}
 use Rattle.pools.proofs.refusals.is_blank.Given as goal
 
--- what the bytes are compared with
-abbrev page : ℕ → List ℕ
-page b = replicate 64 b
-
+-- the differences of the first i bytes are gathered
 abbrev pub invariant-loop-i : goal.invariant-loop-i
-invariant-loop-i l = (l.i ≤ 64) × Compared l.differing l.seed (page l.first) l.i
-
-abbrev pub decreases-loop-i : goal.decreases-loop-i
-decreases-loop-i l = 64 - l.i
+invariant-loop-i l = l.differing ≡ fold (λ x y. bit_or x (bit_xor y l.first)) 0 (take l.i l.seed)

@@ -1,48 +1,41 @@
-use Rattle.std.proofs.Common.{◌≡◌, ◌+◌, ◌-◌, ◌*◌, ◌^◌, ◌≤◌, true, false, length, refl, ◌∙◌, eq-eqb, ne_eqb, pow-suc, add-one, arith, pow_mono, rules}
+use Rattle.std.proofs.Common.{◌≡◌, ◌+◌, ◌-◌, ◌*◌, ◌<◌, true, ◌∙◌, arith, lt-ltb, rules}
+use Rattle.hash.specs.ShaD.{pool_digest}
 use Rattle.pools.specs.Schedule.{used}
 use Rattle.pools.specs.Collected.{nth}
-use Rattle.pools.proofs.PoolTests.{digest-of-pool}
-use Rattle.pools.proofs.Prefix.{used-by-power, unused-after}
-use Rattle.pools.proofs.Collecting.{taken_none, taken_more, taken-all}
+use Rattle.pools.proofs.Prefix.{used-first}
+use Rattle.pools.proofs.Collecting.{taken_none, next-digest, taken_more, taken-all}
 use Rattle.pools.proofs.schedule.collect_digests.Goals as goal
 
-pub loop-count-init : goal.loop-count-init
-loop-count-init c =
-    let start = c.args in
-    let full : length start.pools ≡ 32 = search rules in
-    (refl, taken_none start.pools start.number _ full refl)
+pub loop-i-init : goal.loop-i-init
+loop-i-init c = taken_none c.args.pools.now c.args.number c.args.seed.now c.told-pools c.told-seed
 
-pub overflow_mul-power : goal.overflow_mul-power
-overflow_mul-power c =
-    let b = c.loop-count in
-    let top : b.count ≤ 31 = omega arith in
-    omega (arith, b.invariant.0, pow_mono top)
-
-pub loop-count-preserved : goal.loop-count-preserved
+pub unwrap-digest-requires : goal.unwrap-digest-requires
 unfolding nth
-loop-count-preserved c =
-    let at = c.loop-count in
-    let start = c.args in
-    let k = at.count in
-    let full : length start.pools ≡ 32 = search rules in
-    let test : used start.number k ≡ true = used-by-power start.number at.power k at.invariant.0 ∙ eq-eqb _ 0 c.if-number-power-eq0.true in
-    let size : 32 * k + 32 - 32 * k ≡ 32 = omega arith in
-    let digest = c.pool_digest-hashed.result.digest in
-    let hashed = digest-of-pool start.pools k digest c.requires (omega arith) c.pool_digest-hashed.ensures.1 in
-    let next : 2 ^ (k + 1) ≡ 2 ^ k * 2 = rw (add-one, pow-suc) in (
-      omega (arith, at.invariant.0, next),
-      taken_more start.pools start.number k (32 * k + 32 - 32 * k) at.left at.seed _ digest _ at.invariant.1 (omega arith) test c.empty_pool-empty.ensures hashed size c.overwrite.ensures,
-    )
+unwrap-digest-requires c =
+    let at = c.loop-i in
+    let below : at.i < 32 = omega (arith, c.min-count.ensures) in
+    rw (next-digest c.args.pools.now c.args.number at.i at.pools at.seed _ at.invariant below c.told-pools c.requires c.pool_digest.ensures)
+    (search rules)
 
-pub returns-else-number-power-eq0 : goal.returns-else-number-power-eq0
-returns-else-number-power-eq0 c =
-    let at = c.loop-count in
-    let start = c.args in
-    let unused : used start.number at.count ≡ false = used-by-power start.number at.power at.count at.invariant.0 ∙ ne_eqb _ 0 c.if-number-power-eq0.false in
-    taken-all start.pools start.number at.count at.left at.seed at.invariant.1 (λ i h l. unused-after start.number at.count i unused h)
+pub loop-i-preserved : goal.loop-i-preserved
+unfolding nth
+loop-i-preserved c =
+    let at = c.loop-i in
+    let pools = c.args.pools.now in
+    let n = c.args.number in
+    let below : at.i < 32 = omega (arith, c.min-count.ensures) in
+    let test : used n at.i ≡ true = used-first n c.min-count.result at.i c.min-count.ensures below ∙ lt-ltb at.i c.min-count.result c.loop-i-test.true in
+    let given = next-digest pools n at.i at.pools at.seed _ at.invariant below c.told-pools c.requires c.pool_digest.ensures in
+    let digest : c.unwrap-digest.result ≡ pool_digest (nth pools at.i) = cc (given, c.unwrap-digest.ensures) in
+    let size : 32 * at.i + 32 - 32 * at.i ≡ 32 = omega arith in
+    rw c.copy_from_slice.ensures.after
+    (taken_more pools n at.i _ at.pools at.seed c.unwrap-digest.result c.empty_pool-empty.result at.invariant below test
+    c.empty_pool-empty.ensures digest size)
 
-pub returns-after-loop-count : goal.returns-after-loop-count
-returns-after-loop-count c =
-    let at = c.loop-count in
-    let start = c.args in
-    taken-all start.pools start.number at.count at.left at.seed at.invariant.1 (λ i h l. absurd (omega arith))
+pub returns : goal.returns
+returns c =
+    let at = c.loop-i in
+    let count = c.min-count.result in
+    let end : at.i ≡ count = omega (arith, at.auto.i-end) in
+    taken-all c.args.pools.now c.args.number count at.pools at.seed (omega (arith, c.min-count.ensures))
+    (λ i h. used-first c.args.number count i c.min-count.ensures h) (rw end at at.invariant)

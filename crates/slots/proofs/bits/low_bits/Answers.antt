@@ -1,8 +1,9 @@
-use Rattle.slots.proofs.LeastBits.{all-bits}
+use Rattle.std.proofs.Common.{◌≡◌, length, ◌∙◌, rules, arith}
+use Rattle.slots.proofs.LeastBits.{low-bits}
 use Rattle.slots.proofs.bits.low_bits.Goals as goal
 
-pub returns-then-k-lt32 : goal.returns-then-k-lt32
-returns-then-k-lt32 c = cc
-
 pub returns : goal.returns
-returns c = all-bits _ _ _ c.number-2.ensures.0 c.number-2.ensures.1 c.if-k-lt32.false
+returns c =
+    let long : length c.args.bytes ≡ 4 = search rules in
+    let n = c.from in
+    low-bits c.args.bytes n.result c.args.k c.min.result long (n.ensures ∙ c.from_le_bytes.ensures) (omega arith) c.min.ensures

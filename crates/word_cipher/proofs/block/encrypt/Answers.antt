@@ -1,9 +1,7 @@
 use mathlib.Core.Path.{◌≡◌, ap, ◌∙◌}
 use mathlib.Core.List.{List}
 use Prim.Native.Nat.{ℕ}
-use mir.Val.{Fits}
-use mir.Syntax.{w8}
-use lib.ListN.{length, get_or}
+use lib.ListN.{length}
 use borrow.Author.Rules.{rules}
 use Rattle.cipher.specs.Aes.{Bytes, key_expansion, cipher_with}
 use Rattle.cipher.proofs.Laws.{bytes-key-expansion, length-key-expansion, cipher-with-key}
@@ -15,7 +13,7 @@ pub returns : goal.returns
 returns c =
     let a = c.args in
     let long : length a.key ≡ 32 = search rules in
-    let bytes : Bytes a.key = λ i. let b : Fits w8 (get_or a.key i 0) = search rules in b.fits in
+    let bytes : Bytes a.key = search rules in
     let back = unpacks 60 (key_expansion a.key) (bytes-key-expansion a.key bytes) (length-key-expansion a.key long) in
     c.encrypt_with.ensures
     ∙ ap (λ (w : List ℕ). cipher_with (unpacked 240 w) a.block) c.expand_key.ensures

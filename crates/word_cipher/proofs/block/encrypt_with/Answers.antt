@@ -1,9 +1,7 @@
 use mathlib.Core.Path.{◌≡◌, ap, ◌∙◌}
 use mathlib.Core.List.{List}
 use Prim.Native.Nat.{ℕ}
-use mir.Val.{Fits}
-use mir.Syntax.{w8, w32}
-use lib.ListN.{length, get_or}
+use lib.ListN.{length}
 use borrow.Author.Rules.{rules}
 use Rattle.word_cipher.specs.Cipher.{word_cipher}
 use Rattle.word_cipher.proofs.Agree.{schedules-agree}
@@ -15,6 +13,5 @@ returns c =
     let w = a.schedule.words in
     let long : length w ≡ 60 = search rules in
     c.encrypt_by.ensures
-    ∙ ap (λ (t : List ℕ). word_cipher t w a.block) c.tables-t.ensures
-    ∙ schedules-agree w a.block long (λ i. let b : Fits w32 (get_or w i 0) = search rules in b.fits)
-    (λ i. let b : Fits w8 (get_or a.block i 0) = search rules in b.fits)
+    ∙ ap (λ (t : List ℕ). word_cipher t w a.block) c.tables.ensures
+    ∙ schedules-agree w a.block long (search rules) (search rules)

@@ -1,10 +1,6 @@
-use Prim.Native.Nat.{◌-◌, ◌≤◌}
 use Rattle.laws.proofs.Tabulate.{Filled}
 use Rattle.word_cipher.specs.Words.{word_in}
 use Rattle.word_cipher.proofs.key.expand_key.Given as goal
 
 abbrev pub invariant-loop-k : goal.invariant-loop-k
-invariant-loop-k l = (l.k ≤ 8) × Filled (word_in l.key) 60 l.words l.k
-
-abbrev pub decreases-loop-k : goal.decreases-loop-k
-decreases-loop-k l = 8 - l.k
+invariant-loop-k l = Filled (word_in l.key) 60 l.words l.k

@@ -1,4 +1,0 @@
-use Rattle.cipher.proofs.key.sub_word.Goals as goal
-
-pub returns : goal.returns
-returns c = cc

@@ -1,0 +1,29 @@
+// Why an operation is refused, by 02's numbers.
+ghost use Rattle.std.specs.Prelude.{◌≡◌};
+ghost use Rattle.ctr_drbg.specs.Operations.{code, code-above-0};
+
+use laws::Numbered;
+
+#[derive(Clone, Copy)]
+pub enum Refusal {
+    RequestTooLong,
+    EntropyLength,
+    InputTooLong,
+    SeedingNeeded,
+}
+
+impl Numbered for Refusal {
+    ghost code = { code };
+
+    ghost above_0 = { code-above-0 };
+
+    #[tactic(auto, unfolding(crate::specs::Operations::code))]
+    fn number(self) -> u32 {
+        match self {
+            Refusal::RequestTooLong => 14,
+            Refusal::EntropyLength => 40,
+            Refusal::InputTooLong => 41,
+            Refusal::SeedingNeeded => 42,
+        }
+    }
+}

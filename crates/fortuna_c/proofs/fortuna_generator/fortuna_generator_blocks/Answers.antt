@@ -1,4 +1,0 @@
-use Rattle.fortuna_c.proofs.fortuna_generator.fortuna_generator_blocks.Goals as goal
-
-pub returns : goal.returns
-returns c = (cc, cc, cc)

@@ -1,7 +1,0 @@
-use Rattle.pools.specs.Events.{pool_count}
-use Rattle.pools.specs.State.{fresh}
-use Rattle.pools.proofs.Fortuna.new.Goals as goal
-
-pub returns : goal.returns
-unfolding fresh pool_count
-returns c = rw (c.new-generator.ensures, c.empty_pool-empty.ensures)
