@@ -3,7 +3,7 @@
 
 mod numbered;
 
-ghost use Rattle.std.specs.Prelude.{◌≡◌, min};
+ghost use Rattle.std.specs.Prelude.{◌≡◌, min, take, drop};
 ghost use Rattle.laws.specs.Lists.{overwrite, all_zero};
 ghost use Rattle.laws.specs.Blocks.{block_count};
 
@@ -15,6 +15,20 @@ pub fn overwrite<T: Copy>(out: &mut [T], s: &[T])
 {
     let n = s.len().min(out.len());
     out[..n].copy_from_slice(&s[..n]);
+}
+
+// The first n bytes, or all where there are fewer, so that no caller has to show how many there are.
+pub fn front(s: &[u8], n: usize) -> &[u8]
+    ensures { result.now ≡ take n s.now }
+{
+    &s[..n.min(s.len())]
+}
+
+// What follows the first n bytes; nothing where there are fewer.
+pub fn after(s: &[u8], n: usize) -> &[u8]
+    ensures { result.now ≡ drop n s.now }
+{
+    &s[n.min(s.len())..]
 }
 
 // Whether every byte is 0.
