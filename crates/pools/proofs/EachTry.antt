@@ -1,7 +1,10 @@
 -- What holds of each try, and of one effect after another, holds of a draw and of a shuffle.
 -- Assumes nothing.
+use mathlib.Core.Path.{refl}
+use mathlib.Core.Bool.{Bool, ◌&&◌}
+use borrow.Author.Tests.{lt-ltb, ltb-true, ltb-false}
 use Rattle.std.proofs.Common.{◌≡◌, ℕ, zero, suc, ◌+◌, ◌-◌, ◌<◌, ◌≤◌, true, ltb, List, [], length, arith}
-use Rattle.laws.proofs.Cases.{split}
+use Rattle.laws.proofs.Cases.{split, by-test}
 use Rattle.slots.specs.Fair.{try_value}
 use Rattle.slots.specs.Shuffle.{exchange}
 use Rattle.pools.specs.Refusals.{max_tries}
@@ -81,3 +84,19 @@ module _ {S : Type 0} (serve : S → Effect S) where
   pub idle-shuffle : (list : List ℕ) (s : S) → length list ≤ 1 → shuffled serve list s ≡ record { found = true; value = 0; effect = unchanged list s }
   unfolding shuffled shuffle_from
   idle-shuffle list s h = let none : length list - 1 ≡ 0 = omega arith in rw none
+
+  -- whether a draw and a shuffle empty pools, where their first try tells how many it empties and a state tells whether one does
+  module _ (count : S → ℕ) (is_due : S → Bool) (told : (s : S) → ltb 0 (count s) ≡ is_due s) where
+    pub draw-empties :
+        ((n d : ℕ) (s : S) → (tries serve n (suc d) s).effect.emptied ≡ count s)
+        → (n d : ℕ) (s : S) → ltb 0 (tries serve n d s).effect.emptied ≡ (ltb 0 d && is_due s)
+    draw-empties first n zero s = unfold tries unchanged in refl
+    draw-empties first n (suc d) s = rw (lt-ltb 0 (suc d) (omega arith), first n d s) (told s)
+
+    pub shuffle-empties :
+        ((list : List ℕ) (s : S) → 1 < length list → (shuffled serve list s).effect.emptied ≡ count s)
+        → (list : List ℕ) (s : S) → ltb 0 (shuffled serve list s).effect.emptied ≡ (ltb 1 (length list) && is_due s)
+    shuffle-empties first list s =
+        by-test (ltb 1 (length list)) _
+        (λ t. rw (t, first list s (ltb-true 1 (length list) t)) (told s))
+        (λ t. rw (t, idle-shuffle list s (ltb-false 1 (length list) t)) (unfold unchanged in refl))

@@ -2,7 +2,7 @@
 -- moves the timer at its reading where a pool reseed is due.
 -- Assumes nothing.
 use mathlib.Core.Path.{◌≡◌, refl, ap, ◌∙◌}
-use mathlib.Core.Bool.{Bool, true, false, cond, ◌&&◌}
+use mathlib.Core.Bool.{Bool, false, cond, ◌&&◌}
 use mathlib.Core.List.{List, [], ◌∷◌, map}
 use Prim.Native.Nat.{ℕ, zero, suc, ◌+◌}
 use native.Mathlib.Omega.{arith}
@@ -11,18 +11,17 @@ use lib.ListN.{length}
 use borrow.Author.Tests.{ltb-true, ltb-false, lt-ltb}
 use Rattle.laws.proofs.Cases.{by-test}
 use Rattle.pools.specs.Events.{event_bytes}
-use Rattle.pools.specs.Schedule.{used_pools}
 use Rattle.pools.specs.Effects.{Effect, unchanged}
 use Rattle.pools.specs.Draws.{tries, shuffled}
 use Rattle.pools.specs.Calls.{Call, event, request, update, write, draw, shuffle, reading_of, effect_of, outcome, run_from, state_from}
 use Rattle.quotas.specs.Entries.{Entry}
 use Rattle.reference.specs.Runs.{run}
-use Rattle.pools.proofs.EachTry.{idle-shuffle}
+use Rattle.pools.proofs.EachTry.{idle-shuffle, draw-empties, shuffle-empties}
 use Rattle.reference.specs.Reference.{Reference, empty, due_at, append_event, reference_count, reference_request, reference_try, reference_effect, reference_step, reference_run, reference_after}
 use Rattle.reference.specs.Agreement.{concrete_outcome}
 use Rattle.reference.specs.Timer.{requests, pool_reseeds, reseeds_after}
 use Rattle.reference.specs.Provenance.{puts_into}
-use Rattle.reference.proofs.Schedule.{used-some}
+use Rattle.reference.proofs.Schedule.{emptied-told}
 use Rattle.reference.proofs.Invariant.{count-is}
 use Rattle.reference.proofs.Moves.{Moved, reseed-moves, request-moves, state-due, state-moves, draw-first, shuffle-first}
 
@@ -61,32 +60,20 @@ effect-shape place b (shuffle clock list) = moved (λ i. refl) (shuffle-moves cl
 
 -- ---- the count of pools emptied tells whether a pool reseed was made
 
-count-due : (b : Reference) (clock : ℕ) → ltb 0 (reference_count b clock) ≡ due_at b clock
-count-due b clock = rw (count-is b clock) (go (due_at b clock))
-  where
-    go : (d : Bool) → ltb 0 (cond d (length (used_pools (b.reseeds + 1))) 0) ≡ d
-    go true = lt-ltb 0 _ (used-some (b.reseeds + 1))
-    go false = refl
-
-draw-emptied : (clock n d : ℕ) (b : Reference) → ltb 0 (tries (reference_try clock) n d b).effect.emptied ≡ (ltb 0 d && due_at b clock)
-draw-emptied clock n zero b = unfold tries unchanged in refl
-draw-emptied clock n (suc d) b = rw (lt-ltb 0 (suc d) (omega arith), (draw-first clock n d b).1) (count-due b clock)
-
-shuffle-emptied : (clock : ℕ) (list : List ℕ) (b : Reference)
-    → ltb 0 (shuffled (reference_try clock) list b).effect.emptied ≡ (ltb 1 (length list) && due_at b clock)
-shuffle-emptied clock list b =
-    by-test (ltb 1 (length list)) _
-    (λ t. rw (t, (shuffle-first clock list b (ltb-true 1 (length list) t)).1) (count-due b clock))
-    (λ t. rw (t, idle-shuffle (reference_try clock) list b (ltb-false 1 (length list) t)) (unfold unchanged in refl))
+count-due : (clock : ℕ) (b : Reference) → ltb 0 (reference_count b clock) ≡ due_at b clock
+count-due clock b = rw (count-is b clock) (emptied-told (b.reseeds + 1) (due_at b clock))
 
 effect-emptied : (place : ℕ) (b : Reference) (c : Call) → ltb 0 (reference_effect place b c).emptied ≡ due_call b c
 unfolding reference_effect due_call requests reading_of reference_request
 effect-emptied place b (event source pool content) = refl
-effect-emptied place b (request clock buffer) = count-due b clock
-effect-emptied place b (update clock seed) = count-due _ clock ∙ state-due b _ clock
-effect-emptied place b (write clock seed) = count-due b clock
-effect-emptied place b (draw clock n d) = draw-emptied clock n d b
-effect-emptied place b (shuffle clock list) = shuffle-emptied clock list b
+effect-emptied place b (request clock buffer) = count-due clock b
+effect-emptied place b (update clock seed) = count-due clock _ ∙ state-due b _ clock
+effect-emptied place b (write clock seed) = count-due clock b
+effect-emptied place b (draw clock n d) =
+    draw-empties (reference_try clock) (λ x. reference_count x clock) (λ x. due_at x clock) (count-due clock) (λ n d x. (draw-first clock n d x).1) n d b
+effect-emptied place b (shuffle clock list) =
+    shuffle-empties (reference_try clock) (λ x. reference_count x clock) (λ x. due_at x clock) (count-due clock)
+    (λ l x h. (shuffle-first clock l x h).1) list b
 
 shape-reseeds : (place : ℕ) (b : Reference) (c : Call) (x : Reference) → Shape place b c x → x.reseeds ≡ b.reseeds + cond (due_call b c) 1 0
 shape-reseeds place b c x (appended source pool content q e) = rw (q, e) (unfold due_call requests append_event in omega arith)

@@ -7,9 +7,9 @@ use Prim.Native.Nat.{ℕ, zero, suc, ◌+◌, ◌-◌, ◌*◌, ◌/◌, ◌%◌
 use native.Mathlib.Nat.{lt-mul-div-succ, div-lt_iff_lt-mul, mul-le-mul_left, div-add-mod, mul_comm, mod-eq-zero_of_dvd, dvd-mul_right}
 use native.Mathlib.Omega.{arith}
 use lib.Pow.{pow_pos, mod-mod-pow}
-use lib.Dec.{eqb}
+use lib.Dec.{eqb, ltb}
 use lib.ListN.{length, length-append}
-use borrow.Author.Tests.{eqb-true, eq-eqb}
+use borrow.Author.Tests.{eqb-true, eq-eqb, lt-ltb}
 use Rattle.laws.specs.Lists.{joined}
 use Rattle.laws.proofs.Lists.{joined-append}
 use Rattle.pools.specs.Events.{pool_count}
@@ -65,6 +65,11 @@ below-some n (suc k) = rw length-append (omega (arith, below-some n k))
 pub used-some : (n : ℕ) → 0 < length (used_pools n)
 unfolding used_pools pool_count
 used-some n = below-some n 31
+
+-- how many pools a call empties tells whether it makes a pool reseed
+pub emptied-told : (n : ℕ) (due : Bool) → ltb 0 (cond due (length (used_pools n)) 0) ≡ due
+emptied-told n true = lt-ltb 0 _ (used-some n)
+emptied-told n false = refl
 
 -- ---- what is joined over the used pools depends on those pools alone
 

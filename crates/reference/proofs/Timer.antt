@@ -11,7 +11,7 @@ use lib.ListN.{length}
 use borrow.Author.Tests.{ltb-true, ltb-false, lt-ltb, leb-true, le-leb, eqb-true}
 use Rattle.laws.proofs.Cases.{by-test, both}
 use Rattle.pools.specs.declared.Fortuna.{Fortuna}
-use Rattle.pools.specs.Schedule.{used_pools, elapsed, is_due}
+use Rattle.pools.specs.Schedule.{elapsed, is_due}
 use Rattle.pools.specs.State.{pool_at, due}
 use Rattle.pools.specs.Refusals.{and_then}
 use Rattle.pools.specs.Effects.{Effect, unchanged, with_pool, with_generator, with_request, add_event, next_reseed, pool_reseed, reseed_if_due, emptied_by, random_data, reseed_with_seed, update_seed, write_seed}
@@ -20,12 +20,12 @@ use Rattle.pools.specs.Calls.{Call, event, request, update, write, draw, shuffle
 use Rattle.quotas.specs.Entries.{Entry, entry_number, entry_step}
 use Rattle.quotas.proofs.Entries.{entry-not-33}
 use Rattle.reference.specs.Runs.{state_after}
-use Rattle.pools.proofs.EachTry.{Kept, Begun, begun-tries, begun-shuffled, idle-shuffle}
+use Rattle.pools.proofs.EachTry.{Kept, Begun, begun-tries, begun-shuffled, idle-shuffle, draw-empties, shuffle-empties}
 use Rattle.pools.proofs.OneReseed.{quiet-after, first-try, first-shuffled}
 use Rattle.reference.specs.Agreement.{concrete}
 use Rattle.reference.specs.Timer.{reseeds_after, requests, Later, ElapsedLaw, ReseedTold, TimerStep}
 use Rattle.reference.specs.Provenance.{due_for}
-use Rattle.reference.proofs.Schedule.{used-some}
+use Rattle.reference.proofs.Schedule.{emptied-told}
 use Rattle.reference.proofs.Advances.{reseeds-after}
 use Rattle.reference.proofs.Agreement.{agrees}
 
@@ -73,13 +73,9 @@ due-holds size n mark reading h w = rw (le-leb 64 size h, waited-back n mark rea
 
 -- ---- one step of a state
 
-emptied-due : (s : Fortuna) (clock : ℕ) → ltb 0 (emptied_by s clock) ≡ due s clock
+emptied-due : (clock : ℕ) (s : Fortuna) → ltb 0 (emptied_by s clock) ≡ due s clock
 unfolding emptied_by
-emptied-due s clock = go (due s clock)
-  where
-    go : (d : Bool) → ltb 0 (cond d (length (used_pools (next_reseed s))) 0) ≡ d
-    go true = lt-ltb 0 _ (used-some (next_reseed s))
-    go false = refl
+emptied-due clock s = emptied-told (next_reseed s) (due s clock)
 
 pub seeded-due : (s : Fortuna) (seed : List ℕ) (clock : ℕ) → due (reseed_with_seed s seed) clock ≡ due s clock
 unfolding due pool_at reseed_with_seed with_generator
@@ -87,19 +83,7 @@ seeded-due s seed clock = refl
 
 random-data-emptied : (s : Fortuna) (clock n : ℕ) → ltb 0 (random_data s clock n).emptied ≡ due s clock
 unfolding random_data
-random-data-emptied s clock n = emptied-due s clock
-
--- a draw and a shuffle: those of their first try
-draw-emptied : (clock n d : ℕ) (s : Fortuna) → ltb 0 (tries (try_at clock) n d s).effect.emptied ≡ (ltb 0 d && due s clock)
-draw-emptied clock n zero s = unfold tries unchanged in refl
-draw-emptied clock n (suc d) s = rw (lt-ltb 0 (suc d) (omega arith), (first-try clock n d s).0) (emptied-due s clock)
-
-shuffle-emptied : (clock : ℕ) (list : List ℕ) (s : Fortuna)
-    → ltb 0 (shuffled (try_at clock) list s).effect.emptied ≡ (ltb 1 (length list) && due s clock)
-shuffle-emptied clock list s =
-    by-test (ltb 1 (length list)) _
-    (λ t. rw (t, (first-shuffled clock list s (ltb-true 1 (length list) t)).0) (emptied-due s clock))
-    (λ t. rw (t, idle-shuffle (try_at clock) list s (ltb-false 1 (length list) t)) (unfold unchanged in refl))
+random-data-emptied s clock n = emptied-due clock s
 
 effect-emptied : (s : Fortuna) (c : Call) → ltb 0 (call_effect s c).emptied ≡ due_for s c
 unfolding call_effect due_for requests reading_of
@@ -107,8 +91,10 @@ effect-emptied s (event source pool content) = refl
 effect-emptied s (request clock buffer) = random-data-emptied s clock (length buffer)
 effect-emptied s (update clock seed) = unfold update_seed in random-data-emptied (reseed_with_seed s seed) clock _ ∙ seeded-due s seed clock
 effect-emptied s (write clock seed) = unfold write_seed in random-data-emptied s clock _
-effect-emptied s (draw clock n d) = draw-emptied clock n d s
-effect-emptied s (shuffle clock list) = shuffle-emptied clock list s
+effect-emptied s (draw clock n d) =
+    draw-empties (try_at clock) (λ x. emptied_by x clock) (λ x. due x clock) (emptied-due clock) (λ n d x. (first-try clock n d x).0) n d s
+effect-emptied s (shuffle clock list) =
+    shuffle-empties (try_at clock) (λ x. emptied_by x clock) (λ x. due x clock) (emptied-due clock) (λ l x h. (first-shuffled clock l x h).0) list s
 
 random-data-mark : (s : Fortuna) (clock n : ℕ) → (random_data s clock n).next.last_reseed ≡ cond (due s clock) clock s.last_reseed
 unfolding random_data with_request reseed_if_due

@@ -11,10 +11,10 @@ use Rattle.pools.specs.declared.Fortuna.{Fortuna}
 use Rattle.pools.specs.Schedule.{used_pools}
 use Rattle.pools.specs.Effects.{Effect, random_data}
 use Rattle.pools.specs.Draws.{Drawn, tries, shuffled, try_at}
-use Rattle.pools.specs.State.{fresh, pool_at, counter_of, malformed}
+use Rattle.pools.specs.State.{fresh, pool_at, malformed}
 use Rattle.pools.specs.Tries.{draw_tries, shuffle_tries}
 use Rattle.pools.specs.Promises.{call_numbers}
-use Rattle.pools.specs.Calls.{Call, event, request, update, write, draw, shuffle, call_number, Outcome, outcome, step}
+use Rattle.pools.specs.Calls.{Call, event, request, update, write, draw, shuffle, call_number, outcome, step}
 use Rattle.reference.specs.Readings.{whole_blocks, reseeded_state, seeded_state}
 
 -- the number that a state answers a call with

@@ -1,6 +1,6 @@
 -- The readings that 01 marks [P], as rows of one table: what calls do, beside what 01 says.
 -- Assumes nothing.
-use Rattle.std.specs.Prelude.{◌≡◌, true, false, List, [], ◌∷◌, ◌++◌, map, ℕ, ◌+◌, ◌-◌, ◌^◌, length, take, replicate}
+use Rattle.std.specs.Prelude.{◌≡◌, true, false, List, [], ◌∷◌, ◌++◌, map, ℕ, ◌+◌, ◌-◌, ◌^◌, take, replicate}
 use Rattle.laws.specs.Lists.{tabulate}
 use Rattle.hash.specs.ShaD.{empty_pool}
 use Rattle.hash.specs.declared.hasher.Hasher.{Hasher}
