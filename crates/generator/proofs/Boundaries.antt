@@ -15,7 +15,8 @@ unfolding value little_endian initial block_count generate_blocks block_data pse
 stepping = tt
 
 refusing : Unit {0}
-unfolding max_counter max_message max_d_message max_request max_seed all_zero malformed unseeded spent state_number reseed_number output_number blocks_number request_number
+unfolding max_counter max_message max_d_message max_request max_seed all_zero malformed unseeded spent state_number reseed_number output_number
+    blocks_number request_number
 refusing = tt
 
 pub boundaries : Boundaries

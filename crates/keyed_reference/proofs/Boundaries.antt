@@ -56,8 +56,8 @@ pool-clauses-row = refl
 
 -- an accepted event and a request, and lists
 doing : Unit {0}
-unfolding refusing state_with page row_event event_pool input_buffer gained emptied_into emptied_by_step stepped add_event served random_data_from random_data call_effect
-    effect_of outcome unchanged step count_request max_key_requests
+unfolding refusing state_with page row_event event_pool input_buffer gained emptied_into emptied_by_step stepped add_event served random_data_from random_data
+    call_effect effect_of outcome unchanged step count_request max_key_requests
 doing = tt
 
 listing : Unit {0}

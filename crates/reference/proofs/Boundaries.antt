@@ -8,7 +8,8 @@ use Rattle.reference.proofs.Computing.{answering, adding, emptying, seeding, dra
 
 -- what these rows alone compute with
 own : Unit {0}
-unfolding H⁰ call_numbers answers refusals with_pools with_first_pool with_key with_timer with_requests keyed_unseeded strings4 given late first_seed page count_after
+unfolding H⁰ call_numbers answers refusals with_pools with_first_pool with_key with_timer with_requests keyed_unseeded
+    strings4 given late first_seed page count_after
 own = tt
 
 pub boundaries : Boundaries

@@ -40,7 +40,8 @@ module _ {S : Type 0} where
 
     pub place-one : (p : ℕ) (list : List ℕ) (s : S)
         → shuffle_from serve (suc p) list s
-        ≡ one_place list (tries serve (suc p + 1) max_tries s) (shuffle_from serve p (exchange (suc p) (tries serve (suc p + 1) max_tries s).value list) (tries serve (suc p + 1) max_tries s).effect.next)
+        ≡ one_place list (tries serve (suc p + 1) max_tries s)
+            (shuffle_from serve p (exchange (suc p) (tries serve (suc p + 1) max_tries s).value list) (tries serve (suc p + 1) max_tries s).effect.next)
     unfolding shuffle_from one_place
     place-one p list s = refl
 
@@ -218,7 +219,8 @@ module _ {S T : Type 0} (h : S → T) (g : Effect S → Effect T) (c : Carries h
         place-begun p list s w drawn.0 (shuffle-follows p (exchange (suc p) d.value list) d.effect.next drawn.1).0
 
     -- the whole list
-    pub shuffled-carried : (list : List ℕ) (s : S) (w : T) → shuffle_from follow (length list - 1) list w ≡ carried g (shuffle_from serve (length list - 1) list s)
+    pub shuffled-carried : (list : List ℕ) (s : S) (w : T) → shuffle_from follow (length list - 1) list w
+        ≡ carried g (shuffle_from serve (length list - 1) list s)
         → shuffled follow list w ≡ carried g (shuffled serve list s)
     shuffled-carried list s w e =
         shuffled-kept follow list w ∙ ap (kept_list list) e ∙ kept-carried list (shuffle_from serve (length list - 1) list s)

@@ -74,14 +74,16 @@ module _ (clock : ℕ) where
 
   pub tries-agree : (n d : ℕ) (b : Reference) → Ready b d → Agreed (tries (try_at clock) n d (concrete b)) (tries (reference_try clock) n d b)
   tries-agree n d b r =
-      let a = tries-follow concrete concrete_effect concrete-carries (reference_try clock) (try_at clock) Ready follows n d 0 b (ready-fewer b (d + 0) d (omega arith) r) in
+      let a = tries-follow concrete concrete_effect concrete-carries (reference_try clock) (try_at clock) Ready follows n d 0 b
+          (ready-fewer b (d + 0) d (omega arith) r) in
       (a.0, a.1.sound)
 
   kept-sound : (list : List ℕ) (o : Drawn Reference) → Sound o.effect.next → Sound (kept_list list o).effect.next
   unfolding kept_list leaving
   kept-sound list o s = split (λ (x : Drawn Reference). Sound x.effect.next) o.found (λ t. s) (λ t. s)
 
-  pub shuffle-agrees : (list : List ℕ) (b : Reference) → Ready b (max_tries * (length list - 1)) → Agreed (shuffled (try_at clock) list (concrete b)) (shuffled (reference_try clock) list b)
+  pub shuffle-agrees : (list : List ℕ) (b : Reference) → Ready b (max_tries * (length list - 1))
+      → Agreed (shuffled (try_at clock) list (concrete b)) (shuffled (reference_try clock) list b)
   shuffle-agrees list b r =
       let a = shuffle-follows concrete concrete_effect concrete-carries (reference_try clock) (try_at clock) Ready follows (length list - 1) list b r in (
         shuffled-carried concrete concrete_effect concrete-carries (reference_try clock) (try_at clock) Ready follows list b (concrete b) a.0,

@@ -29,7 +29,8 @@ alone-carries = record { buffer = λ e. refl; next = λ e. refl; idle = λ l b. 
 pub request-alone : (b : Reference) (clock n : ℕ) → served n (reference_reseed_if_due b clock).generator ≡ alone (reference_request b clock n)
 unfolding alone reference_request served requested_state
 request-alone b clock n =
-    ap (λ (made : Generated). record { emptied = 0; buffer = made.bytes; next = made.next; trace = made.trace }) (random-data-closed (reference_reseed_if_due b clock).generator n)
+    ap (λ (made : Generated). record { emptied = 0; buffer = made.bytes; next = made.next; trace = made.trace })
+        (random-data-closed (reference_reseed_if_due b clock).generator n)
 
 module _ (clock : ℕ) where
   -- no reseed is due at the reading
@@ -56,15 +57,20 @@ module _ (clock : ℕ) where
     fewer = λ b j k l q. q;
   }
 
-  pub draw-alone : (n d : ℕ) (b : Reference) → tries (served try_size) n (suc d) (reference_reseed_if_due b clock).generator ≡ carried alone (tries (reference_try clock) n (suc d) b)
+  pub draw-alone : (n d : ℕ) (b : Reference) → tries (served try_size) n (suc d) (reference_reseed_if_due b clock).generator
+      ≡ carried alone (tries (reference_try clock) n (suc d) b)
   unfolding Quiet
-  draw-alone n d b = (tries-from key_of alone alone-carries (reference_try clock) (served try_size) Quiet follows n d 0 b (reference_reseed_if_due b clock).generator (try-alone b) (quiet_next b)).0
+  draw-alone n d b = (tries-from key_of alone alone-carries (reference_try clock) (served try_size) Quiet follows n d 0 b
+      (reference_reseed_if_due b clock).generator (try-alone b) (quiet_next b)).0
 
-  places-alone : (p : ℕ) (list : List ℕ) (b : Reference) → shuffle_from (served try_size) (suc p) list (reference_reseed_if_due b clock).generator ≡ carried alone (shuffle_from (reference_try clock) (suc p) list b)
+  places-alone : (p : ℕ) (list : List ℕ) (b : Reference) → shuffle_from (served try_size) (suc p) list (reference_reseed_if_due b clock).generator
+      ≡ carried alone (shuffle_from (reference_try clock) (suc p) list b)
   unfolding Quiet
-  places-alone p list b = shuffle-from key_of alone alone-carries (reference_try clock) (served try_size) Quiet follows p list b (reference_reseed_if_due b clock).generator (try-alone b) (quiet_next b)
+  places-alone p list b = shuffle-from key_of alone alone-carries (reference_try clock) (served try_size) Quiet follows p list b
+      (reference_reseed_if_due b clock).generator (try-alone b) (quiet_next b)
 
-  pub shuffle-alone : (list : List ℕ) (b : Reference) → 1 < length list → shuffled (served try_size) list (reference_reseed_if_due b clock).generator ≡ carried alone (shuffled (reference_try clock) list b)
+  pub shuffle-alone : (list : List ℕ) (b : Reference) → 1 < length list → shuffled (served try_size) list (reference_reseed_if_due b clock).generator
+      ≡ carried alone (shuffled (reference_try clock) list b)
   shuffle-alone list b h =
       let last : length list - 1 ≡ suc (length list - 2) = omega arith in
       shuffled-carried key_of alone alone-carries (reference_try clock) (served try_size) Quiet follows list b (reference_reseed_if_due b clock).generator
