@@ -96,10 +96,10 @@ impl CtrDrbg {
     fn working(&self) -> Working
         ensures { result ≡ working self.now }
     {
-        // Kept: (c) an array field put straight into the literal of another struct is not proved.
-        let key = self.key;
-        let v = self.v;
-        Working { key, v }
+        Working {
+            key: self.key,
+            v: self.v,
+        }
     }
 
     // The request, where it is accepted.

@@ -40,15 +40,12 @@ impl Working {
 
     // The state that holds Key and V.
     #[tactic(auto, unfolding(crate::specs::Algorithms::state_of))]
-    pub(crate) fn counted(self, reseed_counter: u64) -> CtrDrbg
-        ensures { result ≡ state_of self reseed_counter }
+    pub(crate) fn counted(&self, reseed_counter: u64) -> CtrDrbg
+        ensures { result ≡ state_of self.now reseed_counter }
     {
-        // Kept: (c) an array field put straight into the literal of another struct is not proved.
-        let key = self.key;
-        let v = self.v;
         CtrDrbg {
-            key,
-            v,
+            key: self.key,
+            v: self.v,
             reseed_counter,
         }
     }

@@ -6,6 +6,7 @@ ghost use Rattle.hash.specs.Block.{block_word, next_word, schedule, initial_work
 ghost use Rattle.hash.specs.Prepared.{prepared, prepared_round, prepared_rounds};
 
 use crate::word::{big_sigma0, big_sigma1, choice, majority, sigma0, sigma1};
+use std::array;
 
 // The working variables.
 #[derive(Clone, Copy)]
@@ -87,7 +88,7 @@ static ROUND_CONSTANTS: [u32; 64] = [
     0xc671_78f2,
 ];
 
-// The constants, lent from where they stand: nobody builds them.
+// The constants, lent from where they stand, built nowhere.
 #[tactic(auto, unfolding(crate::specs::Constants::K))]
 fn constants() -> &'static [u32; 64]
     ensures { result.now ≡ K }
@@ -149,11 +150,7 @@ fn prepared(w: &[u32; 64]) -> [u32; 64]
     ensures { result ≡ prepared K w.now }
 {
     let k = constants();
-    let mut p = [0u32; 64];
-    for t in 0..64 {
-        p[t] = k[t].wrapping_add(w[t]);
-    }
-    p
+    array::from_fn(|t| k[t].wrapping_add(w[t]))
 }
 
 // T1 with the prepared word x: there is no constant left to add.
@@ -213,10 +210,9 @@ fn eight_rounds(s: Working, p: &[u32; 64], t: usize) -> Working
 }
 
 // The 64 rounds with the prepared words p.
-fn all_rounds(start: Working, p: &[u32; 64]) -> Working
-    ensures { result ≡ prepared_rounds p.now 0 64 start }
+fn all_rounds(mut s: Working, p: &[u32; 64]) -> Working
+    ensures { result ≡ prepared_rounds p.now 0 64 s }
 {
-    let mut s = start;
     for i in 0..8 {
         s = eight_rounds(s, p, 8 * i);
     }

@@ -9,5 +9,5 @@ use Rattle.ctr_drbg.proofs.output.fill.Given as goal
 -- the first k blocks are laid over the buffer
 abbrev pub invariant-loop-k : goal.invariant-loop-k
 invariant-loop-k l =
-    (length l.out ≡ length l.initial.out) × (l.out ≡ over (enciphered (word_cipher tables l.words) l.initial.last l.k) l.initial.out)
-    × (l.last ≡ after l.initial.last l.k)
+    (length l.out ≡ length l.initial.out) × (l.out ≡ over (enciphered (word_cipher tables l.words) l.initial.v l.k) l.initial.out)
+    × (l.v ≡ after l.initial.v l.k)
