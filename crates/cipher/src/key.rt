@@ -5,6 +5,7 @@ ghost use Rattle.cipher.specs.Aes.{word_at, xor_word, sub_word, x_power, temp, n
 
 use crate::field::sub_byte;
 use laws::overwrite;
+use std::array;
 
 // The first bytes of Rcon[1] to Rcon[7]; the others are 0.
 const RCON: [u8; 7] = [0x01, 0x02, 0x04, 0x08, 0x10, 0x20, 0x40];
@@ -35,7 +36,7 @@ fn put_word(w: &mut [u8; 240], i: usize, word: [u8; 4])
 fn xor_word(s: [u8; 4], t: [u8; 4]) -> [u8; 4]
     ensures { result ≡ xor_word s t }
 {
-    [s[0] ^ t[0], s[1] ^ t[1], s[2] ^ t[2], s[3] ^ t[3]]
+    array::from_fn(|i| s[i] ^ t[i])
 }
 
 fn sub_word(t: [u8; 4]) -> [u8; 4]

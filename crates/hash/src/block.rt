@@ -96,22 +96,13 @@ fn constants() -> &'static [u32; 64]
     &ROUND_CONSTANTS
 }
 
-// Word t of a block.
-fn block_word(block: &[u8; 64], t: usize) -> u32
-    requires { t < 16 }
-    ensures { result ≡ block_word block.now t }
-{
-    let i = t * 4;
-    u32::from_be_bytes([block[i], block[i + 1], block[i + 2], block[i + 3]])
-}
-
 // The block's words, at the front of an array for the schedule.
 fn loaded(block: &[u8; 64]) -> [u32; 64]
     ensures { take 16 result ≡ schedule block.now 16 }
 {
     let mut w = [0u32; 64];
-    for t in 0..16 {
-        w[t] = block_word(block, t);
+    for (t, bytes) in block.as_chunks::<4>().0.iter().enumerate() {
+        w[t] = u32::from_be_bytes(*bytes);
     }
     w
 }
