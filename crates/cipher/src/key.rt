@@ -1,5 +1,5 @@
 // The key schedule: 60 words of 4 bytes.
-ghost use Rattle.std.specs.Prelude.{◌≡◌, ◌<◌, ◌≤◌, ◌*◌, ◌-◌, length};
+ghost use Rattle.std.specs.Prelude.{◌≡◌, ◌<◌, ◌≤◌, ◌*◌, ◌-◌};
 ghost use Rattle.std.proofs.Math.Seq.{paste};
 ghost use Rattle.cipher.specs.Aes.{word_at, xor_word, sub_word, x_power, temp, next_word, key_expansion};
 
@@ -7,14 +7,12 @@ use crate::field::sub_byte;
 use laws::overwrite;
 use std::array;
 
-// The first bytes of Rcon[1] to Rcon[7]; the others are 0.
-const RCON: [u8; 7] = [0x01, 0x02, 0x04, 0x08, 0x10, 0x20, 0x40];
-
+// The first byte of Rcon[n]: up to n = 7 a power of 2.
 fn round_constant(n: usize) -> u8
     requires { (1 ≤ n) × (n < 8) }
     ensures { result ≡ x_power (n - 1) }
 {
-    RCON[n - 1]
+    1 << (n - 1)
 }
 
 // Word i of a schedule.

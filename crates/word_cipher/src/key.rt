@@ -1,5 +1,5 @@
 // The key schedule as 60 words.
-ghost use Rattle.std.specs.Prelude.{◌≡◌, ◌<◌, ◌≤◌, ◌-◌, length};
+ghost use Rattle.std.specs.Prelude.{◌≡◌, ◌<◌, ◌≤◌, ◌-◌};
 ghost use Rattle.cipher.specs.Aes.{x_power, key_expansion};
 ghost use Rattle.word_cipher.specs.Words.{packed};
 ghost use Rattle.word_cipher.specs.Schedule.{sub_words, rotated_temp, four_more, Expands};
