@@ -20,7 +20,7 @@ fn word_at(w: &[u8; 240], i: usize) -> [u8; 4]
     requires { i < 60 }
     ensures { result ≡ word_at w.now i }
 {
-    [w[4 * i], w[4 * i + 1], w[4 * i + 2], w[4 * i + 3]]
+    array::from_fn(|k| w[4 * i + k])
 }
 
 // Word i of a schedule is stored.

@@ -71,16 +71,10 @@ fn last_round(t: &[u32; 1024], w: &[u32; 60], u: [u32; 4]) -> [u32; 4]
 }
 
 // The block's words, with the first round key added.
-#[tactic(auto, unfolding(crate::specs::Cipher::add_words, crate::specs::Words::packed, laws::specs::Lists::tabulate))]
 fn whiten(w: &[u32; 60], s: [u8; 16]) -> [u32; 4]
     ensures { result ≡ add_words w.now 0 (packed 4 s) }
 {
-    [
-        word_in(&s, 0) ^ w[0],
-        word_in(&s, 1) ^ w[1],
-        word_in(&s, 2) ^ w[2],
-        word_in(&s, 3) ^ w[3],
-    ]
+    array::from_fn(|k| word_in(&s, k) ^ w[k])
 }
 
 fn unpack(u: [u32; 4]) -> [u8; 16]
