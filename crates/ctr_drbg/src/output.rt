@@ -10,6 +10,7 @@ use laws::{block_count, part_size};
 use word_cipher::{tables, write_block};
 
 // Fills the buffer with the blocks that follow V, which steps before each, and gives the last V.
+// Kept: (d) beside `fill` of generator: this one steps V, and wraps; that one adds a block's place to the counter, up to a limit.
 #[tactic(auto, unfolding(laws::specs::Blocks::block_count))]
 pub(crate) fn fill(words: &[u32; 60], mut v: [u8; 16], out: &mut [u8]) -> [u8; 16]
     ensures { (result ≡ after v (block_count (length out.old)))

@@ -64,6 +64,7 @@ impl Working {
     }
 
     // Key and V before the output: updated where there is additional input, of which there are m bytes.
+    // Kept: (a) m beside the padded bytes, here and in `advanced`: `prepared_by` of specs, step 2 of a request, takes both.
     #[tactic(auto, unfolding(crate::specs::Algorithms::prepared_by, crate::specs::Algorithms::generate_blocks, laws::specs::Blocks::block_count))]
     fn prepared(self, m: usize, provided: [u8; 48]) -> Working
         ensures { result ≡ prepared_by m provided self }

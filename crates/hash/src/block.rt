@@ -135,7 +135,7 @@ fn scheduled(block: &[u8; 64]) -> [u32; 64]
     w
 }
 
-// The words of all rounds, each its constant and the schedule's word as one sum modulo 2^32. A loop of their own: on x86-64 it
+// The words of all rounds, each its constant and the schedule's word as one sum modulo 2^32. Apart from the rounds: on x86-64 this
 // compiles to sums of four at once.
 fn prepared(w: &[u32; 64]) -> [u32; 64]
     ensures { result ≡ prepared K w.now }
@@ -211,18 +211,19 @@ fn all_rounds(mut s: Working, p: &[u32; 64]) -> Working
 }
 
 // The working variables at the start of a block.
-fn initial_working(h: [u32; 8]) -> Working
-    ensures { result ≡ initial_working h }
+fn initial_working(chain: [u32; 8]) -> Working
+    ensures { result ≡ initial_working chain }
 {
+    let [a, b, c, d, e, f, g, h] = chain;
     Working {
-        a: h[0],
-        b: h[1],
-        c: h[2],
-        d: h[3],
-        e: h[4],
-        f: h[5],
-        g: h[6],
-        h: h[7],
+        a,
+        b,
+        c,
+        d,
+        e,
+        f,
+        g,
+        h,
     }
 }
 

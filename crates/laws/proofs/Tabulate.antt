@@ -72,5 +72,5 @@ module _ {F B : Type 0} (g : Mut F (ℕ × Unit {0}) B) (f : ℕ → B) (d : B) 
   pub made-by : (n : ℕ) → IsFromFnResult g p r n → r ≡ tabulate f n
   made-by n made =
       ext_get_or d r (tabulate f n) (made.long ∙ sym (length-tabulate f n)) (λ i h.
-        let below : i < n = omega (arith, made.long) in
-        made-from n 0 i p refl made.each (omega arith) (omega arith) ∙ sym (get_d_tabulate f d n i below))
+      let below : i < n = omega (arith, made.long) in
+      made-from n 0 i p refl made.each (omega arith) (omega arith) ∙ sym (get_d_tabulate f d n i below))

@@ -26,7 +26,7 @@ loop-k-preserved c =
     let size = length-word-cipher tables c.args.words.now in
     let step : c.increment-next.result ≡ after v (suc k) = c.increment-next.ensures ∙ rw l.invariant.1 (increment-after v k) in
     let laid = laid-more (enciphered f v k) (f (after v (suc k))) _ l.out c.write_block.new.out k _ l.invariant.0
-        (length-enciphered f size v k) (size _) (omega arith) (omega arith) (rw (c.tables.ensures, step) at c.write_block.ensures) in
+    (length-enciphered f size v k) (size _) (omega arith) (omega arith) (rw (c.tables.ensures, step) at c.write_block.ensures) in
     rw (add-one k, enciphered-more f v k) (laid, step)
 
 pub returns : goal.returns

@@ -1,6 +1,6 @@
 use mathlib.Core.Path.{◌≡◌}
 use mathlib.Core.List.{List}
-use Prim.Native.Nat.{ℕ, ◌+◌, ◌*◌, ◌≤◌}
+use Prim.Native.Nat.{ℕ, ◌+◌, ◌≤◌}
 use native.Mathlib.Numerals.{add-one}
 use native.Mathlib.Omega.{arith}
 use lib.ListN.{length}
@@ -33,8 +33,8 @@ loop-k-preserved c =
     let size = length-word-cipher tables c.args.words.now in
     rw (add-one k, enciphered-more f first k)
     (laid-more (enciphered f (counters first k)) (f (counter_block (first + k))) _ l.out c.write_block.new.out k _ l.invariant
-        (length-enciphered f size first k) (size _) (omega arith) (omega arith)
-        (rw (c.tables.ensures, c.counter_block.ensures) at c.write_block.ensures))
+    (length-enciphered f size first k) (size _) (omega arith) (omega arith)
+    (rw (c.tables.ensures, c.counter_block.ensures) at c.write_block.ensures))
 
 pub returns : goal.returns
 returns c =

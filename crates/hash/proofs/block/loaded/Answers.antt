@@ -1,4 +1,4 @@
-use Rattle.std.proofs.Common.{◌≡◌, ◌<◌, ◌∙◌, refl, arith, length-set, rules}
+use Rattle.std.proofs.Common.{◌≡◌, ◌<◌, ◌∙◌, refl, arith, length-set}
 use Rattle.hash.specs.Block.{block_word, schedule}
 use Rattle.hash.proofs.Schedule.{chunk-word, more-block}
 use Rattle.hash.proofs.block.loaded.Goals as goal

@@ -26,4 +26,5 @@ pub returns : goal.returns
 returns c =
     let key = c.args.key in
     let bytes : Bytes key = search rules in
-    c.grow.ensures key (search rules) bytes (loaded key _ _ c.loop-k.invariant (omega (arith, c.loop-k.auto.k-end, c.loop-k-test.false, c.as_chunks.ensures.front_len)))
+    let last : c.loop-k.k ≡ 8 = omega (arith, c.loop-k.auto.k-end, c.loop-k-test.false, c.as_chunks.ensures.front_len) in
+    c.grow.ensures key (search rules) bytes (loaded key _ _ c.loop-k.invariant last)
