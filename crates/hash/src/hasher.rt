@@ -49,15 +49,10 @@ const AFTER_ZEROS: [u32; 8] = [
 ];
 
 // The hash value after the whole blocks of data, each read where it stands.
-fn hash_blocks(mut chain: [u32; 8], blocks: &[[u8; 64]]) -> [u32; 8]
+fn hash_blocks(chain: [u32; 8], blocks: &[[u8; 64]]) -> [u32; 8]
     ensures { result ≡ fold compress chain blocks.now }
 {
-    for block in blocks {
-        // Kept: (c) `chain = compress(chain, block)` is not proved, since chain is an array that the call is passed too; nor is `fold`.
-        let next = compress(chain, block);
-        chain = next;
-    }
-    chain
+    blocks.iter().fold(chain, compress)
 }
 
 // The state after the whole blocks of data, with the rest of data kept.
