@@ -13,7 +13,7 @@ pub fn s_box() -> &'static [u8; 256]
 pub fn sub_byte(x: u8) -> u8
     ensures { result ≡ sub_byte x }
 {
-    s_box()[x as usize]
+    s_box()[usize::from(x)]
 }
 
 // A byte times x, by arithmetic on its top bit: power traces show a branch.

@@ -1,19 +1,18 @@
 // The key schedule: 60 words of 4 bytes.
-ghost use Rattle.std.specs.Prelude.{◌≡◌, ◌<◌, ◌≤◌, ◌*◌, ◌-◌, length};
+ghost use Rattle.std.specs.Prelude.{◌≡◌, ◌<◌, ◌≤◌, ◌*◌, ◌-◌};
 ghost use Rattle.std.proofs.Math.Seq.{paste};
 ghost use Rattle.cipher.specs.Aes.{word_at, xor_word, sub_word, x_power, temp, next_word, key_expansion};
 
 use crate::field::sub_byte;
 use laws::overwrite;
+use std::array;
 
-// The first bytes of Rcon[1] to Rcon[7]; the others are 0.
-const RCON: [u8; 7] = [0x01, 0x02, 0x04, 0x08, 0x10, 0x20, 0x40];
-
+// The first byte of Rcon[n]: up to n = 7 a power of 2.
 fn round_constant(n: usize) -> u8
     requires { (1 ≤ n) × (n < 8) }
     ensures { result ≡ x_power (n - 1) }
 {
-    RCON[n - 1]
+    1 << (n - 1)
 }
 
 // Word i of a schedule.
@@ -21,7 +20,7 @@ fn word_at(w: &[u8; 240], i: usize) -> [u8; 4]
     requires { i < 60 }
     ensures { result ≡ word_at w.now i }
 {
-    [w[4 * i], w[4 * i + 1], w[4 * i + 2], w[4 * i + 3]]
+    array::from_fn(|k| w[4 * i + k])
 }
 
 // Word i of a schedule is stored.
@@ -35,7 +34,7 @@ fn put_word(w: &mut [u8; 240], i: usize, word: [u8; 4])
 fn xor_word(s: [u8; 4], t: [u8; 4]) -> [u8; 4]
     ensures { result ≡ xor_word s t }
 {
-    [s[0] ^ t[0], s[1] ^ t[1], s[2] ^ t[2], s[3] ^ t[3]]
+    array::from_fn(|i| s[i] ^ t[i])
 }
 
 fn sub_word(t: [u8; 4]) -> [u8; 4]

@@ -11,9 +11,10 @@ use Rattle.ctr_drbg.specs.Runs.{call_number, call_next, numbers_from, served_bef
 use Rattle.ctr_drbg.specs.Boundaries.{Boundaries}
 
 pub boundaries : Boundaries
-unfolding tabulate octets_to_integer integer_to_octets increment seed_length xored padded divided max_request reseed_interval never_seeded reseed_required
-    instantiate_number reseed_number generate_number code state_of zero_working fresh block_count working instantiate reseed prepared_by generate_blocks generate
-    instantiate_answer instantiated reseed_answer reseeded generate_answer generated generate_buffer call_number call_next numbers_from served_before
+unfolding tabulate octets_to_integer integer_to_octets increment seed_length xored padded divided max_request reseed_interval never_seeded
+    reseed_required instantiate_number reseed_number generate_number code state_of zero_working fresh block_count working instantiate reseed
+    prepared_by generate_blocks generate instantiate_answer instantiated reseed_answer reseeded generate_answer generated generate_buffer call_number
+    call_next numbers_from served_before
 boundaries =
     record {
       steps = refl;

@@ -24,6 +24,7 @@ const MAX_REQUEST: usize = 65536;
 const RESEED_INTERVAL: u64 = 1 << 48;
 
 // Key, V and the reseed counter, which is 0 before the first seeding. Any bytes may stand in it.
+// Kept: (a) 0 for never seeded, and no Option: C has this struct, and `fresh` and `never_seeded` of specs say 0.
 #[repr(C)]
 #[derive(Clone, Copy)]
 pub struct CtrDrbg {
@@ -96,10 +97,10 @@ impl CtrDrbg {
     fn working(&self) -> Working
         ensures { result ≡ working self.now }
     {
-        // Kept: (c) an array field put straight into the literal of another struct is not proved.
-        let key = self.key;
-        let v = self.v;
-        Working { key, v }
+        Working {
+            key: self.key,
+            v: self.v,
+        }
     }
 
     // The request, where it is accepted.
@@ -115,6 +116,7 @@ impl CtrDrbg {
     }
 
     // A first seeding, or one that starts anew: 48 bytes of entropy input, up to 48 of personalization string.
+    // Kept: (c) one end, here and in the next two: of a closure that may not be called nothing is known of the `out` that it holds.
     #[tactic(auto, using(crate::proofs::Accepted::accepted), unfolding(crate::proofs::Accepted::operating))]
     pub fn instantiate(self, entropy: &[u8], personalization: &[u8]) -> Outcome
         ensures { (number result.answer ≡ instantiate_answer entropy.now personalization.now)

@@ -10,20 +10,21 @@ use laws::{block_count, part_size};
 use word_cipher::{tables, write_block};
 
 // Fills the buffer with the blocks that follow V, which steps before each, and gives the last V.
-pub(crate) fn fill(words: &[u32; 60], v: [u8; 16], out: &mut [u8]) -> [u8; 16]
+// Kept: (d) beside `fill` of generator: this one steps V, and wraps; that one adds a block's place to the counter, up to a limit.
+#[tactic(auto, unfolding(laws::specs::Blocks::block_count))]
+pub(crate) fn fill(words: &[u32; 60], mut v: [u8; 16], out: &mut [u8]) -> [u8; 16]
     ensures { (result ≡ after v (block_count (length out.old)))
         × (out.new ≡ take (length out.old)
         (enciphered (word_cipher tables words.now) v (block_count (length out.old)))) }
 {
-    let mut last = v;
     // Kept: (c) no `chunks_mut(16)`: nothing is known of what then stands in the parts.
     for k in 0..block_count(out.len()) {
         let at = 16 * k;
         let end = at + part_size(out.len() - at);
-        // Kept: (c) `last = increment(last)` is not proved, since last is an array that the call is passed too.
-        let next = increment(last);
+        // Kept: (c) `v = increment(v)` is not proved, since v is an array that the call is passed too.
+        let next = increment(v);
         write_block(tables(), words, next, &mut out[at..end]);
-        last = next;
+        v = next;
     }
-    last
+    v
 }

@@ -1,5 +1,4 @@
 // Why an operation is refused, by 02's numbers.
-ghost use Rattle.std.specs.Prelude.{◌≡◌};
 ghost use Rattle.ctr_drbg.specs.Operations.{code, code-above-0};
 
 use laws::Numbered;

@@ -3,6 +3,7 @@ ghost use Rattle.std.specs.Prelude.{◌≡◌, ◌≤◌, length};
 ghost use Rattle.ctr_drbg.specs.Algorithms.{seed_length, xored, padded};
 
 use laws::overwrite;
+use std::array;
 
 // Up to 48 bytes, with zeros behind them.
 pub(crate) fn padded(s: &[u8]) -> [u8; 48]
@@ -18,9 +19,5 @@ pub(crate) fn padded(s: &[u8]) -> [u8; 48]
 pub(crate) fn xored(s: [u8; 48], t: [u8; 48]) -> [u8; 48]
     ensures { result ≡ xored s t }
 {
-    let mut r = [0u8; 48];
-    for i in 0..48 {
-        r[i] = s[i] ^ t[i];
-    }
-    r
+    array::from_fn(|i| s[i] ^ t[i])
 }

@@ -40,15 +40,12 @@ impl Working {
 
     // The state that holds Key and V.
     #[tactic(auto, unfolding(crate::specs::Algorithms::state_of))]
-    pub(crate) fn counted(self, reseed_counter: u64) -> CtrDrbg
-        ensures { result ≡ state_of self reseed_counter }
+    pub(crate) fn counted(&self, reseed_counter: u64) -> CtrDrbg
+        ensures { result ≡ state_of self.now reseed_counter }
     {
-        // Kept: (c) an array field put straight into the literal of another struct is not proved.
-        let key = self.key;
-        let v = self.v;
         CtrDrbg {
-            key,
-            v,
+            key: self.key,
+            v: self.v,
             reseed_counter,
         }
     }
@@ -67,6 +64,7 @@ impl Working {
     }
 
     // Key and V before the output: updated where there is additional input, of which there are m bytes.
+    // Kept: (a) m beside the padded bytes, here and in `advanced`: `prepared_by` of specs, step 2 of a request, takes both.
     #[tactic(auto, unfolding(crate::specs::Algorithms::prepared_by, crate::specs::Algorithms::generate_blocks, laws::specs::Blocks::block_count))]
     fn prepared(self, m: usize, provided: [u8; 48]) -> Working
         ensures { result ≡ prepared_by m provided self }

@@ -19,6 +19,7 @@ pub use refusal::Refusal;
 pub use sizes::max_request;
 
 // Key and counter; the counter is held least significant byte first, and 0 means unseeded.
+// Kept: (a) 0 for unseeded, and no Option: C has this struct, and `fresh` and `unseeded` of specs say 0.
 #[repr(C)]
 #[derive(Clone, Copy)]
 pub struct Generator {
@@ -132,6 +133,7 @@ impl Generator {
     }
 
     // The key becomes D of the key followed by the seed, and the counter grows by 1.
+    // Kept: (c) one end, here and in the next two: of a closure that may not be called nothing is known of the `out` that it holds.
     #[tactic(auto, using(crate::proofs::Accepted::accepted), unfolding(crate::proofs::Accepted::operating))]
     pub fn reseed(self, seed: &[u8]) -> Outcome
         ensures { (number result.answer ≡ reseed_answer self seed.now) × (result.next ≡ reseeded self seed.now) }

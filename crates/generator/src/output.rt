@@ -13,6 +13,8 @@ use laws::{block_count, part_size};
 use word_cipher::{tables, write_block};
 
 // Fills the buffer with the blocks from a counter on.
+// Kept: (d) beside `fill` of ctr_drbg: this one adds a block's place to the counter, up to a limit; that one steps V, and wraps.
+#[tactic(auto, unfolding(laws::specs::Blocks::block_count))]
 fn fill(words: &[u32; 60], first: u128, out: &mut [u8])
     requires { first + block_count (length out.old) ≤ max_counter }
     ensures { out.new ≡ take (length out.old)

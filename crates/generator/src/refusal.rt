@@ -1,5 +1,4 @@
 // Why an operation is refused, by 01's numbers.
-ghost use Rattle.std.specs.Prelude.{◌≡◌};
 ghost use Rattle.generator.specs.Operations.{code, code-above-0};
 
 use laws::Numbered;

@@ -1,9 +1,9 @@
 -- A number's bytes as the machine gives them, the most significant first, are those that the standard names.
 -- Assumes nothing.
-use Rattle.std.proofs.Common.{◌≡◌, ℕ, zero, suc, ◌+◌, ◌-◌, ◌*◌, ◌/◌, ◌%◌, ◌^◌, ◌<◌, ◌≤◌, List, [], ◌∷◌, ◌++◌, length, take, drop, get_or, ap, ◌∙◌, append_assoc, append-nil, add-zero, add-suc, mul_comm, w32, w64, arith, length-append, length-drop, length-take-le, take_at}
+use Rattle.std.proofs.Common.{◌≡◌, ℕ, ◌+◌, ◌-◌, ◌*◌, ◌/◌, ◌%◌, ◌^◌, ◌<◌, List, get_or, ap, ◌∙◌, mul_comm, w32, w64, arith}
 use Rattle.std.specs.Int.{to_be_bytes}
 use Rattle.laws.specs.Lists.{tabulate}
-use Rattle.laws.proofs.Tabulate.{Filled, length-tabulate}
+use Rattle.laws.proofs.Tabulate.{get_d_tabulate}
 use Rattle.hash.specs.Padding.{length_byte}
 use Rattle.hash.specs.Sha256.{words_byte}
 use Rattle.hash.proofs.Padding.{byte-mod}
@@ -18,7 +18,7 @@ length-bytes n =
     cc (b 0 (omega arith), b 1 (omega arith), b 2 (omega arith), b 3 (omega arith), b 4 (omega arith), b 5 (omega arith), b 6 (omega arith), last)
 
 -- word i of h, in four bytes
-pub word-bytes : (h : List ℕ) (i : ℕ) → to_be_bytes w32 (get_or h i 0) ≡ tabulate (λ (j : ℕ). words_byte h (4 * i + j)) 4
+word-bytes : (h : List ℕ) (i : ℕ) → to_be_bytes w32 (get_or h i 0) ≡ tabulate (λ (j : ℕ). words_byte h (4 * i + j)) 4
 unfolding tabulate
 word-bytes h i =
     let x : ℕ = get_or h i 0 in
@@ -30,17 +30,8 @@ word-bytes h i =
     let last : x % 256 ≡ x / 1 % 256 = omega arith in
     cc (b 0 (omega arith), b 1 (omega arith), b 2 (omega arith), b 3 (omega arith), last)
 
-tabulate-add : (f : ℕ → ℕ) (i k : ℕ) → tabulate f (i + k) ≡ tabulate f i ++ tabulate (λ (j : ℕ). f (i + j)) k
-unfolding tabulate
-tabulate-add f i zero = rw (add-zero, append-nil)
-tabulate-add f i (suc k) = rw (add-suc i k) (ap (λ (l : List ℕ). l ++ (f (i + k) ∷ [])) (tabulate-add f i k) ∙ rw append_assoc)
-
--- a store of k elements at i, where the first i are stored
-pub filled-part : (f : ℕ → ℕ) (n : ℕ) (r v : List ℕ) (i k : ℕ) → Filled f n r i → i + k ≤ n → v ≡ tabulate (λ (j : ℕ). f (i + j)) k
-    → Filled f n (take i r ++ (v ++ drop k (drop i r))) (i + k)
-filled-part f n r v i k (b, e, h) fits is =
-    let front : length (take i r) ≡ i = length-take-le i r (omega arith) in
-    let part : length v ≡ k = ap length is ∙ length-tabulate _ k in
-    let whole : length (take i r ++ (v ++ drop k (drop i r))) ≡ n = rw (length-append, length-append, length-drop, length-drop) (omega arith) in
-    let stored : length (take i r ++ v) ≡ i + k = rw length-append (omega arith) in
-    (fits, whole, rw (← append_assoc (take i r) v (drop k (drop i r)), take_at (take i r ++ v) (drop k (drop i r)) (i + k) stored, tabulate-add f i k, h, is))
+-- byte i of the words of h, in the four bytes of its word
+pub word-byte : (h : List ℕ) (i : ℕ) → get_or (to_be_bytes w32 (get_or h (i / 4) 0)) (i % 4) 0 ≡ words_byte h i
+word-byte h i =
+    let place : 4 * (i / 4) + i % 4 ≡ i = omega arith in
+    rw (word-bytes h (i / 4)) (get_d_tabulate (λ (j : ℕ). words_byte h (4 * (i / 4) + j)) 0 4 (i % 4) (omega arith) ∙ ap (words_byte h) place)

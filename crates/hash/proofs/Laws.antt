@@ -179,11 +179,6 @@ pub number-of-within : {A : Type 0} (limit n : ℕ) (x : A) → number (within l
 unfolding within length_number
 number-of-within limit n x = by-test (ltb limit n) _ (λ e. rw e) (λ e. rw e)
 
--- a message within the limit is accepted
-pub number-within : (limit n : ℕ) → n ≤ limit → length_number limit n ≡ 0
-unfolding within length_number
-number-within limit n h = rw (le-ltb limit n h)
-
 -- the next state of a running hash that stays within the limit
 pub absorbed-within : (r : Hasher) (d : List ℕ) → r.length + length d ≤ max_message → absorbed r d ≡ absorb r d
 unfolding absorbed

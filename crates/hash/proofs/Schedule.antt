@@ -1,11 +1,25 @@
 -- The message schedule, one word after the other: what a store at place t adds.
 -- Assumes nothing.
-use Rattle.std.proofs.Common.{◌≡◌, ℕ, ◌+◌, ◌-◌, ◌<◌, ◌≤◌, List, [], ◌∷◌, ◌++◌, length, take, set, ◌∙◌, add-one, arith, length-set, get_or-take, take-suc-set, le-ltb, lt-ltb}
+use Rattle.std.proofs.Common.{◌≡◌, ℕ, ◌+◌, ◌-◌, ◌*◌, ◌<◌, ◌≤◌, List, [], ◌∷◌, ◌++◌, length, take, get_or, set, ◌∙◌, add-one, arith, length-set, get_or-take, take-suc-set, le-ltb, lt-ltb}
+use Rattle.std.specs.Simd.{first_chunks}
+use Rattle.laws.proofs.Lists.{chunk-element}
 use Rattle.hash.specs.Block.{block_word, next_word, schedule}
 
 -- a store at t puts one word after the first t
 take-store : (w : List ℕ) (t v : ℕ) → t < length w → take (t + 1) (set w t v) ≡ take t w ++ (v ∷ [])
 take-store w t v h = rw (add-one, take-suc-set)
+
+-- word t of block m, from the block in chunks of four bytes
+pub chunk-word : (m : List ℕ) (t : ℕ) → t < 16
+    → let bytes = get_or (first_chunks 4 16 m) t [] in
+    get_or bytes 0 0 * 16777216 + get_or bytes 1 0 * 65536 + get_or bytes 2 0 * 256 + get_or bytes 3 0 ≡ block_word m t
+chunk-word m t h =
+    let first : t * 4 + 0 ≡ t * 4 = omega arith in
+    let a = rw first at (chunk-element 16 4 t 0 m 0 h (omega arith)) in
+    let b = chunk-element 16 4 t 1 m 0 h (omega arith) in
+    let c = chunk-element 16 4 t 2 m 0 h (omega arith) in
+    let d = chunk-element 16 4 t 3 m 0 h (omega arith) in
+    omega (arith, a, b, c, d)
 
 -- the next word is the same from a list that has more words after the first t
 pub next-take : (w : List ℕ) (t : ℕ) → 16 ≤ t → next_word (take t w) t ≡ next_word w t

@@ -27,6 +27,7 @@ pub(crate) const MAX_D_MESSAGE: u64 = MAX_MESSAGE - 64;
 pub(crate) const MAX_POOL_LENGTH: u64 = MAX_D_MESSAGE;
 
 // The longest message to D, in bytes.
+// Kept: (a) a function that gives a constant, here and below: it is public, with a clause, and crates above rest on that.
 #[tactic(auto, unfolding(crate::proofs::Computing::limiting))]
 pub fn max_d_message() -> u64
     ensures { result ≡ max_d_message }

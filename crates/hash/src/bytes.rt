@@ -4,6 +4,8 @@ ghost use Rattle.laws.specs.Lists.{tabulate};
 ghost use Rattle.hash.specs.Padding.{length_byte};
 ghost use Rattle.hash.specs.Sha256.{words_byte};
 
+use std::array;
+
 // The length in bits of a message of count bytes.
 pub(crate) fn length_bytes(count: u64) -> [u8; 8]
     ensures { result ≡ tabulate (length_byte (8 * count)) 8 }
@@ -15,9 +17,5 @@ pub(crate) fn length_bytes(count: u64) -> [u8; 8]
 pub(crate) fn digest_bytes(h: [u32; 8]) -> [u8; 32]
     ensures { result ≡ tabulate (words_byte h) 32 }
 {
-    let mut d = [0u8; 32];
-    for i in 0..8 {
-        d[4 * i..4 * i + 4].copy_from_slice(&h[i].to_be_bytes());
-    }
-    d
+    array::from_fn(|i| h[i / 4].to_be_bytes()[i % 4])
 }

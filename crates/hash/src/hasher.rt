@@ -52,13 +52,7 @@ const AFTER_ZEROS: [u32; 8] = [
 fn hash_blocks(chain: [u32; 8], blocks: &[[u8; 64]]) -> [u32; 8]
     ensures { result ≡ fold compress chain blocks.now }
 {
-    let mut h = chain;
-    for block in blocks {
-        // Kept: (c) `h = compress(h, block)` is not proved, since h is an array that the call is passed too; nor is `fold`.
-        let next = compress(h, block);
-        h = next;
-    }
-    h
+    blocks.iter().fold(chain, compress)
 }
 
 // The state after the whole blocks of data, with the rest of data kept.
@@ -140,13 +134,12 @@ impl Hasher {
             × (result.next ≡ absorbed self «data».now) }
     {
         let answer = within(MAX_MESSAGE, self.length, data.len() as u64);
-        if answer.is_ok() {
-            return Outcome {
-                answer,
-                next: extended(&self, data),
-            };
-        }
-        Outcome { answer, next: self }
+        let next = if answer.is_ok() {
+            extended(&self, data)
+        } else {
+            self
+        };
+        Outcome { answer, next }
     }
 
     // The digest of what was absorbed. A length above the limit is refused.

@@ -4,15 +4,17 @@ use mathlib.Core.Path.{◌≡◌, refl, sym, ap, ◌∙◌}
 use mathlib.Core.Logic.{◌≢◌}
 use mathlib.Core.Bool.{true, true≢false}
 use mathlib.Core.List.{List, [], ◌∷◌, ◌++◌, append_assoc, append-nil, map}
-use Prim.Native.Nat.{ℕ, zero, suc, ◌-◌, ◌<◌}
-use native.Mathlib.Nat.{sub-zero, zero-sub, suc-sub-suc}
+use Prim.Native.Nat.{ℕ, zero, suc, ◌+◌, ◌-◌, ◌*◌, ◌<◌}
+use native.Mathlib.Nat.{not-suc-le-zero, sub-zero, zero-sub, suc-mul, suc-sub-suc}
+use native.Mathlib.Omega.{arith}
 use mir.Val.{Fits}
 use mir.Syntax.{w8}
 use lib.Dec.{eqb}
 use lib.ListN.{length, get_or, drop, set, replicate, length-set, length-replicate, get_or-replicate}
-use lib.Seq.{ext_get_or, get_or-set_same, get_or-set_other}
+use lib.Seq.{ext_get_or, get_or-take, get_or-drop, get_or-set_same, get_or-set_other}
 use borrow.Author.Tests.{eqb-true, eqb-false, eq-eqb}
 use Rattle.std.specs.List.{list_all}
+use Rattle.std.specs.Simd.{first_chunks}
 use Rattle.std.specs.Prelude.{◌==◌, ◌&&◌}
 use Rattle.laws.specs.Lists.{tabulate, all_zero, same_list, joined}
 use Rattle.laws.proofs.Cases.{by-test, both}
@@ -63,6 +65,18 @@ module _ {A : Type 0} where
     where
       read : (i : ℕ) → i < n → get_or (replicate n x) i x ≡ get_or (tabulate f n) i x
       read i h = get_or-replicate n i x x h ∙ sym (get_d_tabulate f x n i h ∙ e i)
+
+-- ---- a list in chunks of k elements: element j of chunk t
+
+pub chunk-element : {A : Type 0} (n k t j : ℕ) (l : List A) (d : A) → t < n → j < k
+    → get_or (get_or (first_chunks k n l) t []) j d ≡ get_or l (t * k + j) d
+chunk-element zero k t j l d h i = absurd (not-suc-le-zero h)
+chunk-element (suc n) k zero j l d h i =
+    let place : j ≡ zero * k + j = omega arith in
+    get_or-take k l j d i ∙ ap (λ (m : ℕ). get_or l m d) place
+chunk-element (suc n) k (suc t) j l d h i =
+    let place : k + (t * k + j) ≡ suc t * k + j = rw suc-mul (omega arith) in
+    chunk-element n k t j (drop k l) d (omega arith) i ∙ get_or-drop k l (t * k + j) d ∙ ap (λ (m : ℕ). get_or l m d) place
 
 -- ---- a list of one element, some of it taken off the front
 

@@ -1,14 +1,19 @@
--- Lists given by a function of the place, and the loop that fills one from the front, one store a turn.
+-- Lists given by a function of the place: the loop that fills one from the front, one store a turn, and the array that a closure
+-- makes of the places.
 -- Assumes nothing.
-use mathlib.Core.Path.{◌≡◌, refl, sym, ap, ap₂, ◌∙◌}
+use mathlib.Core.Path.{◌≡◌, refl, sym, ap, ap₂, subst, ◌∙◌}
 use mathlib.Core.List.{List, [], ◌∷◌, ◌++◌}
 use mathlib.Core.Logic.{⊎_elim}
 use Prim.Native.Nat.{ℕ, zero, suc, ◌+◌, ◌≤◌, ◌<◌}
 use native.Mathlib.Nat.{not-suc-le-zero, eq-or-lt_of_le, le_of_suc-le-suc, le_antisymm, le_refl}
+use native.Mathlib.Decide.{dec_le}
 use native.Mathlib.Numerals.{add-one}
 use native.Mathlib.Omega.{arith}
 use lib.ListN.{length, get_or, take, set, length-set, length-append, get_or-append}
 use lib.Seq.{get_or_at, take-suc-set, take-length}
+use denote.Param.Members.{Mut, Called}
+use Rattle.std.specs.Array.{IsFromFnResultFrom, IsFromFnResult}
+use Rattle.std.proofs.lemmas.List.{ext_get_or}
 use Rattle.laws.specs.Lists.{tabulate}
 
 module _ {A : Type 0} where
@@ -48,3 +53,24 @@ module _ {A : Type 0} where
 
   pub filled-all : (f : ℕ → A) (n : ℕ) (r : List A) (i : ℕ) → Filled f n r i → n ≤ i → r ≡ tabulate f n
   filled-all f n r i (b, e, h) l = sym (take-length r) ∙ ap (λ (m : ℕ). take m r) e ∙ rw (← le_antisymm b l) h
+
+-- an array that a closure makes, which gives f i at each place i and changes nothing that it has
+module _ {F B : Type 0} (g : Mut F (ℕ × Unit {0}) B) (f : ℕ → B) (d : B) (p : F) (r : List B)
+    (each : (i : ℕ) (y : B) (q : F) → Called g p (i, tt) y q → (y ≡ f i) × (q ≡ p)) where
+  made-from : (n i j : ℕ) (s : F) → s ≡ p → IsFromFnResultFrom g s r i n → i ≤ j → j < i + n → get_or r j d ≡ f j
+  made-from zero i j s same made h l = absurd (omega arith)
+  made-from (suc n) i j s same made h l =
+      let (q, y, stands, called, rest) = made in
+      let one = each i y q (subst (λ (t : F). Called g t (i, tt) y q) same called) in
+      elim (dec_le (i + 1) j) [
+        | yes m ↦ made-from n (i + 1) j q one.1 rest m (omega arith)
+        | no m ↦
+            let e : j ≡ i = omega arith in
+            rw e (stands.1 d ∙ one.0)
+      ]
+
+  pub made-by : (n : ℕ) → IsFromFnResult g p r n → r ≡ tabulate f n
+  made-by n made =
+      ext_get_or d r (tabulate f n) (made.long ∙ sym (length-tabulate f n)) (λ i h.
+      let below : i < n = omega (arith, made.long) in
+      made-from n 0 i p refl made.each (omega arith) (omega arith) ∙ sym (get_d_tabulate f d n i below))

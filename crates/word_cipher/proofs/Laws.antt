@@ -1,11 +1,9 @@
 -- What crates above cite instead of the definitions' text.
 -- Assumes nothing.
-use Prim.Native.Nat.{ℕ, ◌≤◌}
+use Prim.Native.Nat.{ℕ}
 use mathlib.Core.Path.{◌≡◌, ◌∙◌}
 use mathlib.Core.List.{List}
-use lib.ListN.{length, take}
-use Rattle.laws.specs.Lists.{overwrite}
-use Rattle.laws.proofs.Copy.{overwrite-cut}
+use lib.ListN.{length}
 use Rattle.laws.proofs.Tabulate.{length-tabulate}
 use Rattle.cipher.specs.Aes.{key_expansion}
 use Rattle.cipher.proofs.Bytes.{bytes-key-expansion}
@@ -24,7 +22,3 @@ ciphers-agree key block p h = agrees (key_expansion key) block (bytes-key-expans
 pub length-word-cipher : (t w block : List ℕ) → length (word_cipher t w block) ≡ 16
 unfolding word_cipher unpacked
 length-word-cipher t w block = length-tabulate _ 16
-
--- A part of at most 16 bytes holds the block's first bytes afterwards.
-pub overwrite-block : (part t w block : List ℕ) → length part ≤ 16 → overwrite part (word_cipher t w block) ≡ take (length part) (word_cipher t w block)
-overwrite-block part t w block l = overwrite-cut part (word_cipher t w block) (rw length-word-cipher l)

@@ -3,15 +3,30 @@
 use mathlib.Core.Path.{◌≡◌, refl, ap, ◌∙◌}
 use mathlib.Core.List.{List, [], ◌∷◌}
 use Prim.Native.Nat.{ℕ, zero, suc, ◌+◌, ◌*◌, ◌/◌, ◌%◌, ◌^◌, ◌<◌}
-use native.Mathlib.Nat.{not-suc-le-zero, le_of_suc-le-suc}
+use native.Mathlib.Nat.{not-suc-le-zero, le_of_suc-le-suc, mul_comm}
 use native.Mathlib.Omega.{arith}
 use lib.Bits.{bit_xor, xor_block}
-use lib.ListN.{length}
+use lib.ListN.{length, get_or}
 use lib.Seq.{ext_get_or}
+use Rattle.std.specs.Simd.{first_chunks}
+use Rattle.laws.proofs.Lists.{chunk-element}
 use Rattle.laws.proofs.Tabulate.{length-tabulate, get_d_tabulate}
 use Rattle.cipher.specs.Aes.{at, Bytes}
 use Rattle.cipher.proofs.Bytes.{bytes-tabulate}
 use Rattle.word_cipher.specs.Words.{word, byte_of, word_in, packed, unpacked}
+
+-- word k of a key, from the key in chunks of four bytes
+pub chunk-word : (key : List ℕ) (k : ℕ) → k < 8
+    → let bytes = get_or (first_chunks 4 8 key) k [] in
+    at bytes 0 + at bytes 1 * 256 + at bytes 2 * 65536 + at bytes 3 * 16777216 ≡ word_in key k
+unfolding word
+chunk-word key k h =
+    let first : k * 4 + 0 ≡ 4 * k = omega arith in
+    let a = rw first at (chunk-element 8 4 k 0 key 0 h (omega arith)) in
+    let b = rw (mul_comm k 4) at (chunk-element 8 4 k 1 key 0 h (omega arith)) in
+    let c = rw (mul_comm k 4) at (chunk-element 8 4 k 2 key 0 h (omega arith)) in
+    let d = rw (mul_comm k 4) at (chunk-element 8 4 k 3 key 0 h (omega arith)) in
+    omega (arith, a, b, c, d)
 
 -- what holds at 0 to 3
 four : (P : ℕ → Type 0) → P 0 → P 1 → P 2 → P 3 → (x : ℕ) → x < 4 → P x

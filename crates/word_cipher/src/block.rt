@@ -9,6 +9,7 @@ use crate::key::{Schedule, expand_key};
 use crate::table::tables;
 use crate::word::{byte_of, word_in, word_of};
 use laws::overwrite;
+use std::array;
 
 // A mixed column, from the words that hold its four bytes.
 #[tactic(auto, unfolding(crate::specs::Cipher::mixed_word))]
@@ -19,7 +20,7 @@ fn mixed_word(t: &[u32; 1024], p: u32, q: u32, r: u32, s: u32) -> u32
     let b = byte_of(q, 1);
     let c = byte_of(r, 2);
     let d = byte_of(s, 3);
-    t[a as usize] ^ t[256 + b as usize] ^ t[512 + c as usize] ^ t[768 + d as usize]
+    t[usize::from(a)] ^ t[256 + usize::from(b)] ^ t[512 + usize::from(c)] ^ t[768 + usize::from(d)]
 }
 
 // The substitution of a byte stands in the first table, as its entries' second byte.
@@ -27,7 +28,7 @@ fn mixed_word(t: &[u32; 1024], p: u32, q: u32, r: u32, s: u32) -> u32
 fn substituted(t: &[u32; 1024], x: u8) -> u8
     ensures { result ≡ substituted t.now x }
 {
-    byte_of(t[x as usize], 1)
+    byte_of(t[usize::from(x)], 1)
 }
 
 // A column of the last round, which mixes none.
@@ -70,26 +71,16 @@ fn last_round(t: &[u32; 1024], w: &[u32; 60], u: [u32; 4]) -> [u32; 4]
 }
 
 // The block's words, with the first round key added.
-#[tactic(auto, unfolding(crate::specs::Cipher::add_words, crate::specs::Words::packed, laws::specs::Lists::tabulate))]
 fn whiten(w: &[u32; 60], s: [u8; 16]) -> [u32; 4]
     ensures { result ≡ add_words w.now 0 (packed 4 s) }
 {
-    [
-        word_in(&s, 0) ^ w[0],
-        word_in(&s, 1) ^ w[1],
-        word_in(&s, 2) ^ w[2],
-        word_in(&s, 3) ^ w[3],
-    ]
+    array::from_fn(|k| word_in(&s, k) ^ w[k])
 }
 
 fn unpack(u: [u32; 4]) -> [u8; 16]
     ensures { result ≡ unpacked 16 u }
 {
-    let mut r = [0u8; 16];
-    for i in 0..16 {
-        r[i] = byte_of(u[i / 4], i % 4);
-    }
-    r
+    array::from_fn(|i| byte_of(u[i / 4], i % 4))
 }
 
 // A block under an expanded key, with the tables lent. Two rounds a turn.
@@ -100,9 +91,7 @@ pub fn encrypt_by(t: &[u32; 1024], w: &[u32; 60], block: [u8; 16]) -> [u8; 16]
     let mut u = whiten(w, block);
     for turn in 0..6 {
         let middle = round(t, w, 2 * turn + 1, u);
-        // Kept: (c) `u = round(.., u)` is not proved, since u is an array that the call is passed too.
-        let next = round(t, w, 2 * turn + 2, middle);
-        u = next;
+        u = round(t, w, 2 * turn + 2, middle);
     }
     unpack(last_round(t, w, round(t, w, 13, u)))
 }

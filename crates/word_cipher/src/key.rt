@@ -1,10 +1,10 @@
 // The key schedule as 60 words.
-ghost use Rattle.std.specs.Prelude.{◌≡◌, ◌<◌, ◌≤◌, ◌-◌, length};
+ghost use Rattle.std.specs.Prelude.{◌≡◌, ◌<◌, ◌≤◌, ◌-◌};
 ghost use Rattle.cipher.specs.Aes.{x_power, key_expansion};
 ghost use Rattle.word_cipher.specs.Words.{packed};
 ghost use Rattle.word_cipher.specs.Schedule.{sub_words, rotated_temp, four_more, Expands};
 
-use crate::word::{byte_of, word_in, word_of};
+use crate::word::{byte_of, word_of};
 use cipher::sub_byte;
 
 // SubWord of the word whose bytes are bytes i, j, k and l of x.
@@ -80,8 +80,8 @@ pub fn expand_key(key: [u8; 32]) -> Schedule
     ensures { result.words ≡ packed 60 (key_expansion key) }
 {
     let mut words = [0u32; 60];
-    for k in 0..8 {
-        words[k] = word_in(&key, k);
+    for (k, bytes) in key.as_chunks::<4>().0.iter().enumerate() {
+        words[k] = u32::from_le_bytes(*bytes);
     }
     grow(&mut words);
     Schedule { words }

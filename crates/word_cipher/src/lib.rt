@@ -1,4 +1,5 @@
 // AES-256 encryption (FIPS 197) by four tables of words: the cipher of `cipher` a second time, for speed.
+// Kept: (a) a second cipher under the same names: C has both, and `CiphersAgree` of specs says that they agree.
 #![tactic(auto)]
 
 mod block;

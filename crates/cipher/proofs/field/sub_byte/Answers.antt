@@ -3,4 +3,4 @@ use Rattle.cipher.proofs.FieldClaims.{s-box-rule}
 use Rattle.cipher.proofs.field.sub_byte.Goals as goal
 
 pub returns : goal.returns
-returns c = rw c.s_box.ensures (s-box-rule c.args.x (search rules))
+returns c = rw (c.s_box.ensures, c.from.ensures) (s-box-rule c.args.x (search rules))

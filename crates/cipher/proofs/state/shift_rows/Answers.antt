@@ -1,16 +1,8 @@
-use mathlib.Core.Path.{refl}
-use lib.ListN.{replicate}
 use borrow.Author.Rules.{rules}
-use Rattle.laws.proofs.Tabulate.{filled_none, filled_more, filled-all}
+use Rattle.laws.proofs.Tabulate.{made-by}
 use Rattle.cipher.specs.Aes.{shift_rows}
 use Rattle.cipher.proofs.state.shift_rows.Goals as goal
 
-pub loop-i-init : goal.loop-i-init
-loop-i-init c = filled_none _ 16 (replicate 16 0) refl
-
-pub loop-i-preserved : goal.loop-i-preserved
-loop-i-preserved c = filled_more _ 16 _ _ _ c.loop-i.invariant (search rules) refl
-
 pub returns : goal.returns
 unfolding shift_rows
-returns c = filled-all _ 16 _ _ c.loop-i.invariant (search rules)
+returns c = made-by _ _ 0 _ _ (λ i y q k. search rules) _ c.from_fn.ensures.items

@@ -1,37 +1,22 @@
-use mathlib.Core.Path.{◌≡◌, refl, ◌∙◌}
+use mathlib.Core.Path.{◌≡◌}
 use mathlib.Core.List.{List}
-use Prim.Native.Nat.{◌+◌, ◌*◌, ◌-◌, ◌≤◌}
+use Prim.Native.Nat.{ℕ, ◌+◌, ◌≤◌}
 use native.Mathlib.Numerals.{add-one}
 use native.Mathlib.Omega.{arith}
-use lib.ListN.{length, take, drop, length-take, length-drop}
+use lib.ListN.{length}
 use lib.Pow.{lt_of_le_ones}
 use Rattle.laws.specs.Blocks.{block_count}
-use Rattle.laws.proofs.Parts.{over_none, over-full, part_filled}
+use Rattle.laws.proofs.Parts.{laid-none, laid-more, laid-all}
 use Rattle.word_cipher.specs.Cipher.{word_cipher}
 use Rattle.word_cipher.specs.Tables.{tables}
-use Rattle.word_cipher.proofs.Laws.{length-word-cipher, overwrite-block}
+use Rattle.word_cipher.proofs.Laws.{length-word-cipher}
 use Rattle.generator.specs.Counter.{max_counter, counter_block}
 use Rattle.generator.specs.Closed.{counters, enciphered}
 use Rattle.generator.proofs.Blocks.{enciphered-none, enciphered-more, length-enciphered}
-use borrow.Author.Rules.{rules}
 use Rattle.generator.proofs.output.fill.Goals as goal
 
 pub loop-k-init : goal.loop-k-init
-loop-k-init c =
-    let a = c.args in
-    (refl, over_none _ ∙ rw (enciphered-none (word_cipher tables a.words.now) a.first))
-
-pub overflow_mul-at : goal.overflow_mul-at
-unfolding block_count
-overflow_mul-at c = omega arith
-
-pub overflow_sub-out : goal.overflow_sub-out
-unfolding block_count
-overflow_sub-out c = omega arith
-
-pub overflow_add-end : goal.overflow_add-end
-unfolding block_count
-overflow_add-end c = omega arith
+loop-k-init c = rw (enciphered-none (word_cipher tables c.args.words.now) c.args.first) (laid-none _)
 
 pub overflow_add-first : goal.overflow_add-first
 unfolding max_counter
@@ -39,46 +24,23 @@ overflow_add-first c =
     let room : c.args.first + c.loop-k.k ≤ max_counter = omega arith in
     record { fits = lt_of_le_ones 128 room }
 
-pub slice_bounds-write_block-end : goal.slice_bounds-write_block-end
-unfolding block_count
-slice_bounds-write_block-end c = omega arith
-
-pub slice_bounds-write_block-start : goal.slice_bounds-write_block-start
-unfolding block_count
-slice_bounds-write_block-start c = omega arith
-
 pub loop-k-preserved : goal.loop-k-preserved
-unfolding block_count
 loop-k-preserved c =
-    let out₀ = c.args.out.now in
     let l = c.loop-k in
     let k = l.k in
     let first = c.args.first in
-    let at = 16 * k in
-    let end = at + c.part_size.result in
-    let part = take (end - at) (drop at l.out) in
-    let w = c.args.words.now in
-    let f : List _ → List _ = word_cipher tables w in
-    let size : length part ≡ end - at = simp (length-take, length-drop) (omega arith) in
-    let block : c.write_block.new.out ≡ take (end - at) (f (counter_block (first + k))) =
-    rw c.tables.ensures at c.write_block.ensures
-    ∙ overwrite-block part tables w c.counter_block.result (omega (arith, size))
-    ∙ rw (size, c.counter_block.ensures) in (
-      search rules,
-      part_filled (enciphered f (counters first k)) (f (counter_block (first + k))) out₀ l.out c.write_block.new.out at end
-          (omega (arith, length-enciphered f (length-word-cipher tables w) first k)) (length-word-cipher tables w _)
-          l.invariant.1 (omega arith) (omega arith) block
-          ∙ rw (add-one k, enciphered-more f first k),
-    )
+    let f : List ℕ → List ℕ = word_cipher tables c.args.words.now in
+    let size = length-word-cipher tables c.args.words.now in
+    rw (add-one k, enciphered-more f first k)
+    (laid-more (enciphered f (counters first k)) (f (counter_block (first + k))) _ l.out c.write_block.new.out k _ l.invariant
+    (length-enciphered f size first k) (size _) (omega arith) (omega arith)
+    (rw (c.tables.ensures, c.counter_block.ensures) at c.write_block.ensures))
 
 pub returns : goal.returns
-unfolding block_count
 returns c =
-    let out₀ = c.args.out.now in
     let l = c.loop-k in
-    let w = c.args.words.now in
-    let f : List _ → List _ = word_cipher tables w in
-    let all : l.k ≡ block_count (length out₀) = omega arith in
-    let long : length out₀ ≤ length (enciphered f (counters c.args.first (block_count (length out₀)))) =
-    rw (length-enciphered f (length-word-cipher tables w) c.args.first (block_count (length out₀))) (omega arith) in
-    l.invariant.1 ∙ rw all (over-full _ out₀ long)
+    let f : List ℕ → List ℕ = word_cipher tables c.args.words.now in
+    let n : ℕ = block_count (length c.args.out.now) in
+    let last : l.k ≡ n = omega arith in
+    let all = rw last at l.invariant in
+    laid-all _ _ l.out n all (length-enciphered f (length-word-cipher tables c.args.words.now) c.args.first n) (omega arith)

@@ -11,7 +11,7 @@ loop-turn-init c = refl
 pub loop-turn-preserved : goal.loop-turn-preserved
 loop-turn-preserved c =
     let l = c.loop-turn in
-    two-more _ _ _ _ _ _ l.turn l.invariant c.round-middle.ensures c.round-next.ensures
+    two-more _ _ _ _ _ _ l.turn l.invariant c.round-middle.ensures c.round-u.ensures
 
 pub returns : goal.returns
 unfolding word_cipher word_rounds
