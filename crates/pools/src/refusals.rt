@@ -1,4 +1,4 @@
-// The answer of each call, from plain values. Input numbers come before state numbers, within each list the lower first.
+// The answer of each call: by its input, and by how the state stands. Input numbers come before state numbers, within each list the lower first.
 ghost use Rattle.std.specs.Prelude.{◌≡◌, ◌≤◌, length};
 ghost use Rattle.generator.specs.Steps.{decode};
 ghost use Rattle.pools.specs.Pool.{full};
@@ -19,11 +19,13 @@ const LAST_POOL: u32 = 31;
 // The bytes of a seed.
 pub(crate) const SEED_SIZE: usize = 64;
 
-// The largest n of a draw, the most tries, and the most numbers of a list.
+// The largest n of a draw: 2^32.
 const MAX_BELOW: u64 = 4294967296;
 
+// The most tries of a draw.
 pub const MAX_TRIES: u32 = 64;
 
+// The most numbers of a list to shuffle.
 const MAX_LIST: usize = 256;
 
 // Whether a pool of `size` bytes has no room for n more. The sum itself might not fit.
@@ -36,6 +38,7 @@ fn is_full(size: u64, n: u64) -> bool
 }
 
 // The answer to an event of n bytes of data, where its pool holds `size` bytes.
+// Kept: (a) five values: the clause, by `event_number`, is of these.
 #[tactic(auto, using(crate::proofs::Asked::event))]
 pub fn event_answer(
     malformed: bool,

@@ -28,6 +28,7 @@ fn bits_from(tail: &[u8; 64], at: usize) -> u8
     bits
 }
 
+// Whether a pool is too long, has bytes behind its tail that are not 0, or has another running hash than the empty pool's though it is short.
 #[tactic(auto, using(crate::proofs::WellFormed::pool))]
 fn pool_malformed(pool: &Hasher) -> bool
     ensures { result ≡ malformed_pool pool.now }
