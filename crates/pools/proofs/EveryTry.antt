@@ -52,7 +52,8 @@ module _ (clock : ℕ) where
       (λ t. every-none Passes)
       (λ t. draw-passes n d (try_at clock s).next (pools-next s clock all) (passing-next s clock d all p)))
 
-  shuffle-passes : (p : ℕ) (list : List ℕ) (s : Fortuna) → length s.pools ≡ pool_count → Passing s clock (max_tries * p) → Every Passes (shuffle_tries (try_at clock) p list s)
+  shuffle-passes : (p : ℕ) (list : List ℕ) (s : Fortuna) → length s.pools ≡ pool_count → Passing s clock (max_tries * p)
+      → Every Passes (shuffle_tries (try_at clock) p list s)
   unfolding shuffle_tries
   shuffle-passes zero list s all q = every-none Passes
   shuffle-passes (suc p) list s all q =
@@ -61,11 +62,14 @@ module _ (clock : ℕ) where
       let first : Passing s clock max_tries = passing-fewer s clock max_tries (max_tries + max_tries * p) (omega arith) room in
       every_append Passes (draw_tries (try_at clock) (suc p + 1) max_tries s) _ (draw-passes (suc p + 1) max_tries s all first)
       (split (Every Passes) d.found
-      (λ t. shuffle-passes p (exchange (suc p) d.value list) d.effect.next (tries-pools clock (suc p + 1) max_tries s all) (tries-passing clock (suc p + 1) max_tries (max_tries * p) s all room))
+      (λ t.
+      shuffle-passes p (exchange (suc p) d.value list) d.effect.next (tries-pools clock (suc p + 1) max_tries s all)
+      (tries-passing clock (suc p + 1) max_tries (max_tries * p) s all room))
       (λ t. every-none Passes))
 
   -- a list of 0 or 1 numbers makes none
-  list-passes : (list : List ℕ) (s : Fortuna) → length s.pools ≡ pool_count → call_number s (shuffle clock list) ≡ 0 → Every Passes (shuffle_tries (try_at clock) (length list - 1) list s)
+  list-passes : (list : List ℕ) (s : Fortuna) → length s.pools ≡ pool_count → call_number s (shuffle clock list) ≡ 0
+      → Every Passes (shuffle_tries (try_at clock) (length list - 1) list s)
   list-passes list s all e =
       by-test (ltb (length list) 2) (Every Passes (shuffle_tries (try_at clock) (length list - 1) list s))
       (λ t. let few : length list - 1 ≡ 0 = omega (arith, ltb-true (length list) 2 t) in rw few (unfold shuffle_tries in every-none Passes))
@@ -128,10 +132,12 @@ module _ (clock : ℕ) where
   abbrev Starts : Fortuna → ℕ → Fortuna → List Fortuna → Type 0
   Starts s emptied first others = (first ≡ s) × Every Quiet others × (emptied ≡ emptied_by s clock)
 
-  starts : (s first : Fortuna) (rest others : List Fortuna) (emptied : ℕ) → Path (List Fortuna) (s ∷ rest) (first ∷ others) → Every Quiet rest → emptied ≡ emptied_by s clock → Starts s emptied first others
+  starts : (s first : Fortuna) (rest others : List Fortuna) (emptied : ℕ) → Path (List Fortuna) (s ∷ rest) (first ∷ others) → Every Quiet rest
+      → emptied ≡ emptied_by s clock → Starts s emptied first others
   starts s first rest others emptied e q h = (sym (head-eq_of_cons-eq e), subst (Every Quiet) (tail-eq_of_cons-eq e) q, h)
 
-  draw-starts : (n d : ℕ) (s first : Fortuna) (others : List Fortuna) → draw_tries (try_at clock) n d s ≡ first ∷ others → Starts s (tries (try_at clock) n d s).effect.emptied first others
+  draw-starts : (n d : ℕ) (s first : Fortuna) (others : List Fortuna) → draw_tries (try_at clock) n d s ≡ first ∷ others
+      → Starts s (tries (try_at clock) n d s).effect.emptied first others
   draw-starts n zero s first others e = absurd (unfold draw_tries in nil≢cons e)
   draw-starts n (suc d) s first others e = starts s first (later n d s) others _ (sym (later-is n d s) ∙ e) (quiet-later n d s) (first-try clock n d s).0
 
@@ -140,19 +146,22 @@ module _ (clock : ℕ) where
   unfolding max_tries
   first-is n s = later-is n 63 s
 
-  shuffle-starts : (p : ℕ) (list : List ℕ) (s first : Fortuna) (others : List Fortuna) → shuffle_tries (try_at clock) p list s ≡ first ∷ others → Starts s (shuffle_from (try_at clock) p list s).effect.emptied first others
+  shuffle-starts : (p : ℕ) (list : List ℕ) (s first : Fortuna) (others : List Fortuna) → shuffle_tries (try_at clock) p list s ≡ first ∷ others
+      → Starts s (shuffle_from (try_at clock) p list s).effect.emptied first others
   unfolding shuffle_tries
   shuffle-starts zero list s first others e = absurd (nil≢cons e)
   shuffle-starts (suc p) list s first others e =
       let d = tries (try_at clock) (suc p + 1) max_tries s in
       let more : List Fortuna = cond d.found (shuffle_tries (try_at clock) p (exchange (suc p) d.value list) d.effect.next) [] in
-      let quiet = split (Every Quiet) d.found (λ t. quiet-shuffle p (exchange (suc p) d.value list) d.effect.next (quiet-drawn (suc p + 1) s)) (λ t. every-none Quiet) in
+      let quiet = split (Every Quiet) d.found
+      (λ t. quiet-shuffle p (exchange (suc p) d.value list) d.effect.next (quiet-drawn (suc p + 1) s)) (λ t. every-none Quiet) in
       starts s first (later (suc p + 1) 63 s ++ more) others _
       (ap (λ (l : List Fortuna). l ++ more) (sym (first-is (suc p + 1) s)) ∙ e)
       (every_append Quiet (later (suc p + 1) 63 s) more (quiet-later (suc p + 1) 63 s) quiet)
       (first-shuffle clock p list s).0
 
-  shuffled-emptied : (list : List ℕ) (s : Fortuna) → (shuffled (try_at clock) list s).effect.emptied ≡ (shuffle_from (try_at clock) (length list - 1) list s).effect.emptied
+  shuffled-emptied : (list : List ℕ) (s : Fortuna)
+      → (shuffled (try_at clock) list s).effect.emptied ≡ (shuffle_from (try_at clock) (length list - 1) list s).effect.emptied
   unfolding shuffled leaving
   shuffled-emptied list s =
       let o = shuffle_from (try_at clock) (length list - 1) list s in

@@ -20,7 +20,8 @@ gained-asks size source n k d e f t =
     let p = event-passed false size source 0 n ok in
     (p.known, p.short, event-room false size source 0 n ok)
 
-chain : (size source n : ℕ) → ltb max_source source ≡ false → (eqb n 0 || ltb max_data n) ≡ false → full size (gain n) ≡ false → event_number false size source 0 n ≡ 0
+chain : (size source n : ℕ) → ltb max_source source ≡ false → (eqb n 0 || ltb max_data n) ≡ false → full size (gain n) ≡ false
+    → event_number false size source 0 n ≡ 0
 unfolding event_number event_input event_state and_then pool_count
 chain size source n a b c = rw (a, b, c)
 
@@ -28,7 +29,8 @@ chain size source n a b c = rw (a, b, c)
 pub any-pool : (m : Bool) (size source pool n : ℕ) → event_number m size source pool n ≡ 0 → event_number false size source 0 n ≡ 0
 any-pool m size source pool n e =
     let parts = both-passed (event_input source pool n) (event_state m size n) (unfold event_number in e) in
-    let known = passed (ltb max_source source) 11 (refuse (ltb (pool_count - 1) pool) 12 (refuse (eqb n 0 || ltb max_data n) 13 0)) (omega arith) (unfold event_input in parts.0) in
+    let known = passed (ltb max_source source) 11 (refuse (ltb (pool_count - 1) pool) 12 (refuse (eqb n 0 || ltb max_data n) 13 0)) (omega arith)
+    (unfold event_input in parts.0) in
     let placed = passed (ltb (pool_count - 1) pool) 12 (refuse (eqb n 0 || ltb max_data n) 13 0) (omega arith) known.1 in
     let sized = passed (eqb n 0 || ltb max_data n) 13 0 (omega arith) placed.1 in
     let formed = passed m 21 (refuse (full size (gain n)) 22 0) (omega arith) (unfold event_state in parts.1) in
@@ -36,6 +38,7 @@ any-pool m size source pool n e =
     chain size source n known.0 sized.0 room.0
 
 -- so its pool gains its bytes
-pub gained-pool-is : (m : Bool) (p : Hasher) (source pool : ℕ) (d : List ℕ) → event_number m p.length source pool (length d) ≡ 0 → gained_pool p source d ≡ absorb p (event_bytes source d)
+pub gained-pool-is : (m : Bool) (p : Hasher) (source pool : ℕ) (d : List ℕ) → event_number m p.length source pool (length d) ≡ 0
+    → gained_pool p source d ≡ absorb p (event_bytes source d)
 unfolding gained_pool
 gained-pool-is m p source pool d e = rw (any-pool m p.length source pool (length d) e)

@@ -24,7 +24,8 @@ pub draw-range : (s : Fortuna) (clock n d : ℕ) → call_number s (draw clock n
 unfolding call_number
 draw-range s clock n d e = draw-bounds (malformed s) (counter_of s) (due s clock) n d e
 
-pub shuffle-passing : (s : Fortuna) (clock : ℕ) (list : List ℕ) → call_number s (shuffle clock list) ≡ 0 → 2 ≤ length list → Passing s clock (max_tries * (length list - 1))
+pub shuffle-passing : (s : Fortuna) (clock : ℕ) (list : List ℕ) → call_number s (shuffle clock list) ≡ 0 → 2 ≤ length list
+    → Passing s clock (max_tries * (length list - 1))
 unfolding call_number max_tries
 shuffle-passing s clock list e h =
     let p = shuffle-passed (malformed s) (counter_of s) (due s clock) list e h in

@@ -57,5 +57,6 @@ rest-unused n k zero h none = let e : k ≡ 0 = omega arith in rw e refl
 rest-unused n k (suc m) h none =
     ⊎_elim
     (λ (e : k ≡ suc m). rw e refl)
-    (λ (l : k < suc m). rw (none m (le_of_suc-le-suc l) (le_refl (suc m)), append-nil) (rest-unused n k m (le_of_suc-le-suc l) (λ i a b. none i a (omega arith))))
+    (λ (l : k < suc m).
+    rw (none m (le_of_suc-le-suc l) (le_refl (suc m)), append-nil) (rest-unused n k m (le_of_suc-le-suc l) (λ i a b. none i a (omega arith))))
     (eq-or-lt_of_le h)

@@ -15,10 +15,10 @@ pub(crate) fn collect_digests(pools: &mut [Hasher; 32], number: u32, seed: &mut 
 {
     let count = (number.trailing_zeros() as usize + 1).min(32);
     let empty = Hasher::empty_pool();
-    for i in 0..count {
-        let digest = pools[i].pool_digest().unwrap();
+    for (i, pool) in pools[..count].iter_mut().enumerate() {
+        let digest = pool.pool_digest().unwrap();
         seed[32 * i..32 * i + 32].copy_from_slice(&digest);
-        pools[i] = empty;
+        *pool = empty;
     }
     count
 }

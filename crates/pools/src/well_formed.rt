@@ -22,8 +22,8 @@ fn bits_from(tail: &[u8; 64], at: usize) -> u8
     ensures { (result == 0) ≡ all_zero (drop at tail.now) }
 {
     let mut bits = 0u8;
-    for i in 0..64 {
-        bits |= tail[i] & MASKS[63 - at + i];
+    for (byte, mask) in tail.iter().zip(&MASKS[63 - at..]) {
+        bits |= byte & mask;
     }
     bits
 }
