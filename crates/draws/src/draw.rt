@@ -10,6 +10,7 @@ use pools::{Fortuna, Refusal};
 use slots::{bits_for, low_bits};
 
 // The answer, with the value drawn, the pools emptied, and the state that follows.
+// Kept: (d) no pools::Outcome, whose answer carries nothing: a type parameter for this one use would stand in all the others.
 #[derive(Clone, Copy)]
 pub struct Draw {
     pub answer: Result<u64, Refusal>,

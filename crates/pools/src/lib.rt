@@ -55,6 +55,7 @@ pub struct Outcome<S> {
 }
 
 // What an event comes to: its answer, and the one pool to store.
+// Kept: (a) place and pool beside the answer: the clauses, by `Gains`, say which pool that is on a refusal too.
 #[derive(Clone, Copy)]
 pub struct Gain {
     pub answer: Result<(), Refusal>,

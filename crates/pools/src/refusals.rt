@@ -168,6 +168,7 @@ impl Standing {
     }
 
     // The answer where b blocks are to be made.
+    // Kept: (d) the generator has these three tests of its own state: one helper would take each test and each refusal, and is longer.
     #[tactic(auto, unfolding(crate::specs::Refusals::output_state))]
     fn output_answer(self, b: u32) -> Result<(), Refusal>
         requires { b ≤ 65538 }
