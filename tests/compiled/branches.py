@@ -31,7 +31,6 @@ KEYED = [
     "hash::block::compress",
 ]
 POLYNOMIAL = "0x1b"
-NO_POLYNOMIAL = {("draws::draw::make_tries", "mov ecx,0x1b")}  # the number of bits that a draw below 2^27 keeps
 TABLE = 4 * 256  # bytes of a table of words
 BLOCK_MOVES = {"memcpy", "memmove", "memset"}
 VECTOR_SHIFTS = {f"ps{way}{size}" for way in ("ll", "rl", "ra") for size in "wdq"}
@@ -101,9 +100,7 @@ def copies(found, named):
         f"{name}: {step.text}: the doubling, in a function that is not looked at"
         for name, body in others.items()
         for step in body
-        if POLYNOMIAL in step.operands
-        and step.name not in SHIFTS | VECTOR_SHIFTS
-        and (name, step.text) not in NO_POLYNOMIAL
+        if POLYNOMIAL in step.operands and step.name not in SHIFTS | VECTOR_SHIFTS
     ]
     return doublings + [
         f"{name}: look-ups in four tables of words, in a function that is not looked at"

@@ -51,7 +51,11 @@ module _ (s : Fortuna) (clock n times k : ℕ) (d : Bool) (numbered : k ≡ call
         next ∙ ap (λ (e : Effect Fortuna). e.next) is,
       )
 
-  pub draw-kept : d ≡ false → (k ≡ (step s (draw clock n times)).number) × (0 ≡ (step s (draw clock n times)).effect.emptied) × (0 ≡ (step s (draw clock n times)).value) × (s ≡ (step s (draw clock n times)).effect.next)
+  pub draw-kept : d ≡ false
+      → (k ≡ (step s (draw clock n times)).number)
+      × (0 ≡ (step s (draw clock n times)).effect.emptied)
+      × (0 ≡ (step s (draw clock n times)).value)
+      × (s ≡ (step s (draw clock n times)).effect.next)
   unfolding unchanged
   draw-kept t =
       let is = kept s (draw clock n times) k d numbered tested t in (
@@ -64,7 +68,8 @@ module _ (s : Fortuna) (clock n times k : ℕ) (d : Bool) (numbered : k ≡ call
 -- ---- a shuffle
 
 module _ (s : Fortuna) (clock : ℕ) (list : List ℕ) (k : ℕ) (d : Bool) (numbered : k ≡ call_number s (shuffle clock list)) (tested : d ≡ eqb k 0) where
-  pub shuffle-done : (r : Outcome Fortuna) (out : List ℕ) → d ≡ true → DrawsList (shuffled (try_at clock) list s) r out → GivesBytes (step s (shuffle clock list)) r out
+  pub shuffle-done : (r : Outcome Fortuna) (out : List ℕ) → d ≡ true → DrawsList (shuffled (try_at clock) list s) r out
+      → GivesBytes (step s (shuffle clock list)) r out
   unfolding call_effect call_found
   shuffle-done r out t (answer, emptied, next, buffer) =
       let is = done s (shuffle clock list) k d numbered tested t in (

@@ -78,7 +78,11 @@ module _ (clock p e : ℕ) (whole : Drawn Fortuna) (xs : List ℕ) (s : Fortuna)
     is_found = found-is _ _ done drawn.0 tested
 
     -- no value for it ends the shuffle
-    pub place-missed : done ≡ false → (number r.answer ≡ cond whole.found 0 33) × (e + r.emptied ≡ whole.effect.emptied) × (r.next ≡ whole.effect.next) × (xs ≡ whole.effect.buffer)
+    pub place-missed : done ≡ false
+        → (number r.answer ≡ cond whole.found 0 33)
+        × (e + r.emptied ≡ whole.effect.emptied)
+        × (r.next ≡ whole.effect.next)
+        × (xs ≡ whole.effect.buffer)
     unfolding leaving
     place-missed t =
         let f = is_found ∙ t in
@@ -90,13 +94,15 @@ module _ (clock p e : ℕ) (whole : Drawn Fortuna) (xs : List ℕ) (s : Fortuna)
     pub place-drawn : done ≡ true → value_of r.answer < p + 1
     place-drawn t = rw drawn.2 (tries-below (try_at clock) (p + 1) 64 s (is_found ∙ t))
 
-    pub place-next : (ys : List ℕ) → done ≡ true → ys ≡ exchange p (value_of r.answer) xs → LeftList whole (e + r.emptied) (shuffle_from (try_at clock) (p - 1) ys r.next)
+    pub place-next : (ys : List ℕ) → done ≡ true → ys ≡ exchange p (value_of r.answer) xs
+        → LeftList whole (e + r.emptied) (shuffle_from (try_at clock) (p - 1) ys r.next)
     unfolding after
     place-next ys t changed =
         let f = is_found ∙ t in
         let d = tries (try_at clock) (p + 1) 64 s in
         let more = shuffle_from (try_at clock) (p - 1) (exchange p d.value xs) d.effect.next in
-        let is : shuffle_from (try_at clock) p xs s ≡ record { found = more.found; value = 0; effect = after d.effect more.effect } = place_is clock p xs s some ∙ rw f in
+        let is : shuffle_from (try_at clock) p xs s ≡ record { found = more.found; value = 0; effect = after d.effect more.effect } =
+        place_is clock p xs s some ∙ rw f in
         let (found, emptied, next, buffer) = subst (LeftList whole e) is left in
         rw (changed, drawn.1, drawn.2, drawn.3) (found, omega (arith, emptied), next, buffer)
 
@@ -109,7 +115,8 @@ module _ (clock p e : ℕ) (whole : Drawn Fortuna) (xs : List ℕ) (s : Fortuna)
       (rw found, omega (arith, emptied), sym next, sym buffer)
 
 -- the tries of the next places pass
-pub ready-below : (s : Fortuna) (clock p : ℕ) (r : Draw) → 0 < p → DrawsValue (tries (try_at clock) (p + 1) 64 s) r → Ready s clock (max_tries * p) → Ready r.next clock (max_tries * (p - 1))
+pub ready-below : (s : Fortuna) (clock p : ℕ) (r : Draw) → 0 < p → DrawsValue (tries (try_at clock) (p + 1) 64 s) r → Ready s clock (max_tries * p)
+    → Ready r.next clock (max_tries * (p - 1))
 unfolding max_tries
 ready-below s clock p r h drawn (all, pass) =
     let m : 64 * p ≡ 64 + 64 * (p - 1) = omega arith in

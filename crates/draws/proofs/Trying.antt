@@ -26,7 +26,8 @@ use Rattle.pools.proofs.Tries.{pools-next, passing-next}
 
 -- ---- a try's request
 
-request-effect : (s : Fortuna) (clock : ℕ) (buffer : List ℕ) → length buffer ≡ try_size → call_number s (request clock buffer) ≡ 0 → (step s (request clock buffer)).effect ≡ try_at clock s
+request-effect : (s : Fortuna) (clock : ℕ) (buffer : List ℕ) → length buffer ≡ try_size → call_number s (request clock buffer) ≡ 0
+    → (step s (request clock buffer)).effect ≡ try_at clock s
 unfolding call_effect try_at
 request-effect s clock buffer h k = sym (done s (request clock buffer) _ true refl (rw k) refl) ∙ rw h
 
@@ -64,7 +65,8 @@ left-all o = (refl, refl, sym (zero-add o.effect.emptied), refl)
 
 -- t tries of d were made, and the state is now s
 module _ (clock n d t e : ℕ) (whole : Drawn Fortuna) (s : Fortuna) (left : Left whole e (tries (try_at clock) n (d - t) s)) where
-  module _ (q : Outcome Fortuna) (k v : ℕ) (bytes : List ℕ) (turn : t < d) (try : Served s clock q bytes) (bits : k ≡ bits_for n) (drawn : v ≡ value bytes % 2 ^ k) where
+  module _ (q : Outcome Fortuna) (k v : ℕ) (bytes : List ℕ) (turn : t < d) (try : Served s clock q bytes)
+      (bits : k ≡ bits_for n) (drawn : v ≡ value bytes % 2 ^ k) where
     is-value : v ≡ try_value n (try_at clock s).buffer
     unfolding try_value
     is-value = rw (← bits, ← try.bytes) drawn
@@ -86,7 +88,8 @@ module _ (clock n d t e : ℕ) (whole : Drawn Fortuna) (s : Fortuna) (left : Lef
     try-miss h =
         let test : ltb (try_value n (try_at clock s).buffer) n ≡ false = rw (← is-value) (le-ltb v n h) in
         let more = tries (try_at clock) n (d - (t + 1)) (try_at clock s).next in
-        let is : tries (try_at clock) n (d - t) s ≡ record { found = more.found; value = more.value; effect = after (try_at clock s) more.effect } = rw (one_more, test) in
+        let is : tries (try_at clock) n (d - t) s ≡ record { found = more.found; value = more.value; effect = after (try_at clock s) more.effect } =
+        rw (one_more, test) in
         let (found, val, emptied, next) = subst (Left whole e) is left in
         rw (try.next, try.emptied) (found, val, omega (arith, emptied), next)
 
@@ -102,7 +105,8 @@ module _ (clock n d t e : ℕ) (whole : Drawn Fortuna) (s : Fortuna) (left : Lef
 abbrev pub Ready : Fortuna → ℕ → ℕ → Type 0
 Ready s clock k = (length s.pools ≡ pool_count) × Passing s clock k
 
-pub ready-next : (s : Fortuna) (clock d t : ℕ) (q : Outcome Fortuna) (bytes : List ℕ) → t < d → Served s clock q bytes → Ready s clock (d - t) → Ready q.next clock (d - (t + 1))
+pub ready-next : (s : Fortuna) (clock d t : ℕ) (q : Outcome Fortuna) (bytes : List ℕ) → t < d → Served s clock q bytes → Ready s clock (d - t)
+    → Ready q.next clock (d - (t + 1))
 ready-next s clock d t q bytes h try (all, pass) =
     let m : d - t ≡ suc (d - (t + 1)) = omega arith in
     rw try.next (pools-next s clock all, passing-next s clock (d - (t + 1)) all (subst (Passing s clock) m pass))

@@ -1,5 +1,5 @@
 // Shuffles of a list by draws.
-ghost use Rattle.std.specs.Prelude.{◌-◌, ◌*◌, ◌≤◌, ◌<◌, length};
+ghost use Rattle.std.specs.Prelude.{◌-◌, ◌*◌, ◌≤◌, length};
 ghost use Rattle.pools.specs.Refusals.{max_tries};
 ghost use Rattle.pools.specs.Draws.{shuffle_from, shuffled, try_at};
 ghost use Rattle.pools.specs.Calls.{shuffle, step};
@@ -8,21 +8,15 @@ ghost use Rattle.pools.specs.Tries.{Passing};
 ghost use Rattle.draws.specs.Drawing.{DrawsList};
 
 use crate::draw::make_tries;
-use laws::overwrite;
 use pools::{Fortuna, MAX_TRIES, Outcome};
 
-// From place p = last down to 1, the entry there changes with that of the place drawn below p + 1. A draw without a value ends it.
-fn shuffle_from(
-    order: &mut [u16; 256],
-    mut state: Fortuna,
-    clock: u32,
-    last: usize,
-) -> Outcome<Fortuna>
-    requires { (last < 256) × Passing state clock (max_tries * last) }
-    ensures { DrawsList (shuffle_from (try_at clock) last order.old state) result order.new }
+// From the last place down to 1, the entry at p changes places with the one at the place drawn below p + 1. A draw without a value ends it.
+fn shuffle_from(order: &mut [u16], mut state: Fortuna, clock: u32) -> Outcome<Fortuna>
+    requires { (length order.old ≤ 256) × Passing state clock (max_tries * (length order.old - 1)) }
+    ensures { DrawsList (shuffle_from (try_at clock) (length order.old - 1) order.old state) result order.new }
 {
     let mut emptied = 0;
-    for p in (1..=last).rev() {
+    for p in (1..order.len()).rev() {
         let draw = make_tries(state, clock, p as u64 + 1, MAX_TRIES);
         emptied += draw.emptied;
         state = draw.next;
@@ -44,16 +38,17 @@ fn shuffle_from(
     }
 }
 
-// A shuffle of at least two numbers, in a copy: the list is written only where every draw found a value.
+// A shuffle in a copy: the list is written only where every draw found a value.
 fn shuffle_list(state: Fortuna, clock: u32, list: &mut [u16]) -> Outcome<Fortuna>
-    requires { (2 ≤ length list.old) × (length list.old ≤ 256) × Passing state clock (max_tries * (length list.old - 1)) }
+    requires { (length list.old ≤ 256) × Passing state clock (max_tries * (length list.old - 1)) }
     ensures { DrawsList (shuffled (try_at clock) list.old state) result list.new }
 {
-    let mut order = [0u16; 256];
-    overwrite(&mut order, list);
-    let outcome = shuffle_from(&mut order, state, clock, list.len() - 1);
+    let mut copy = [0u16; 256];
+    let order = &mut copy[..list.len()];
+    order.copy_from_slice(list);
+    let outcome = shuffle_from(order, state, clock);
     if outcome.answer.is_ok() {
-        overwrite(list, &order);
+        list.copy_from_slice(order);
     }
     outcome
 }

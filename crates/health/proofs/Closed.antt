@@ -85,9 +85,6 @@ runs = run-longest
 
 -- ---- counts
 
-eqb_comm : (a b : ℕ) → eqb a b ≡ eqb b a
-eqb_comm a b = grind (arith, nat_tests)
-
 count-single : (a y : ℕ) → count_of a (y ∷ []) ≡ cond (eqb y a) 1 0
 unfolding count_of
 count-single a y = grind (arith, nat_tests)

@@ -14,6 +14,7 @@ pub use refusals::Refusal;
 
 // Between two samples: the last one and how often it has come in a row; the first of the window, how often it has come there, and how many
 // samples the window has.
+// Kept: (a) 0 for no sample seen, and no Option: C has this struct (fortuna_health), and its fresh state is all 0.
 #[repr(C)]
 #[derive(Clone, Copy)]
 pub struct HealthState {
@@ -56,6 +57,7 @@ impl HealthState {
     }
 
     // The tests over a run of samples, each with its cutoff. A failing sample ends them, and the state is fresh again.
+    // Kept: (a) two cutoffs side by side: the C function (fortuna_health_test) and README have them so.
     #[tactic(auto, unfolding(crate::specs::Calls::tested, crate::specs::Calls::outcome_of, crate::specs::Calls::malformed))]
     pub fn test(self, samples: &[u32], repetition: u32, proportion: u32) -> Outcome
         ensures { result ≡ tested repetition proportion self samples.now }

@@ -1,11 +1,12 @@
 -- Tests without a branch: bits gathered by or, differences by xor, and what they say of lists.
 -- Assumes nothing.
-use Rattle.std.proofs.Common.{◌≡◌, ℕ, zero, suc, ◌+◌, ◌-◌, ◌*◌, ◌<◌, ◌≤◌, max, Bool, true, false, ◌&&◌, eqb, ltb, List, [], ◌∷◌, ◌++◌, length, get_or, drop, replicate, mod-eq_of_lt, sym, refl, ap, ◌∙◌, add-one, arith, drop_of_length-le, drop-cons, get_or-append-add, ltb-false, ltb-true, eq-eqb, ne_eqb, eqb-true}
+use Rattle.std.proofs.Common.{◌≡◌, ℕ, zero, suc, ◌+◌, ◌-◌, ◌*◌, ◌<◌, ◌≤◌, max, Bool, true, false, ◌&&◌, eqb, ltb, List, [], ◌∷◌, ◌++◌, length, get_or, take, drop, replicate, mod-eq_of_lt, sym, refl, ap, ◌∙◌, add-one, arith, drop_of_length-le, drop-cons, length-take, length-drop, get_or-append-add, ltb-false, ltb-true, eq-eqb, ne_eqb, eqb-true}
 use mathlib.Core.Bool.{and-true, and_assoc}
 use native.Mathlib.Nat.{max-eq_left, max-eq_right}
 use lib.Bits.{bit_and, bit_or, bit_xor, and_zero_r, and_mask, or_zero_r, or_zero_l, or_add_and, and_le_l, and_le_r, xor_self, xor_add_and}
 use lib.Dec.{eqb-suc-zero}
 use lib.Pointwise.{pointwise}
+use Rattle.std.proofs.lemmas.List.{get_or-drop, get_or-take}
 use Rattle.std.specs.List.{fold}
 use lib.ListN.{get_or-replicate, length-replicate, get_or-append}
 use borrow.Author.Tests.{eqb-false}
@@ -40,6 +41,10 @@ xor-none a b = go (eqb a b) refl
 abbrev pub Found : ℕ → ℕ → List ℕ → ℕ → Type 0
 Found d at t i = (eqb d 0 && all_zero (drop (max i at) t)) ≡ all_zero (drop at t)
 
+-- before the loop there are none
+pub found_none : (at : ℕ) (t : List ℕ) → Found 0 at t 0
+found_none at t = let e : max 0 at ≡ at = max-eq_right (omega arith) in rw e
+
 -- a byte before `at` is left out
 found_below : (d at i : ℕ) (t : List ℕ) → i < at → Found d at t i → Found d at t (i + 1)
 found_below d at i t h f =
@@ -53,9 +58,17 @@ unfolding all_zero
 found-more d at i t h l f =
     let e : max i at ≡ i = max-eq_left h in
     let e' : max (i + 1) at ≡ i + 1 = max-eq_left (omega arith) in
+<<<<<<< HEAD
     let g : (eqb d 0 && (eqb (get_or t i 0) 0 && all_zero (drop (i + 1) t))) ≡ all_zero (drop at t) = rw (add-one i) (rw (e, drop-cons t i 0 l) at f) in
     rw e' (ap (λ (b : Bool). b && all_zero (drop (i + 1) t)) (or-none d (get_or t i 0))
         ∙ and_assoc (eqb d 0) (eqb (get_or t i 0) 0) (all_zero (drop (i + 1) t)) ∙ g)
+=======
+    let g : (eqb d 0 && (eqb (get_or t i 0) 0 && all_zero (drop (i + 1) t))) ≡ all_zero (drop at t) =
+    rw (add-one i) (rw (e, drop-cons t i 0 l) at f) in
+    rw e'
+    (ap (λ (b : Bool). b && all_zero (drop (i + 1) t)) (or-none d (get_or t i 0))
+    ∙ and_assoc (eqb d 0) (eqb (get_or t i 0) 0) (all_zero (drop (i + 1) t)) ∙ g)
+>>>>>>> 1a63e3f4c02087f7464c2f12bc92d5685416f18b
 
 -- the code's table: 63 bytes that keep no bit, then 64 that keep all
 abbrev pub mask_bytes : List ℕ
@@ -68,10 +81,22 @@ mask-none j h = get_or-append (replicate 63 0) (replicate 64 255) 0 j (rw length
 mask-all : (j : ℕ) → j < 64 → get_or mask_bytes (63 + j) 0 ≡ 255
 mask-all j h = get_or-append-add (replicate 63 0) (replicate 64 255) j 0 ∙ get_or-replicate 64 j 255 0 h
 
--- one turn: the bits of byte i that the mask keeps are gathered
-pub found_turn : (d at i : ℕ) (t m : List ℕ) → m ≡ mask_bytes → at < 64 → i < 64 → length t ≡ 64 → get_or t i 0 < 256
-    → Found d at t i → Found (bit_or d (bit_and (get_or t i 0) (get_or m (63 - at + i) 0))) at t (i + 1)
-found_turn d at i t m e h l n byte f = rw e (go (ltb i at) refl)
+-- those that go with the 64 bytes, of which the ones from `at` on are looked at
+abbrev pub masks_from : ℕ → List ℕ
+masks_from at = take (127 - (63 - at)) (drop (63 - at) mask_bytes)
+
+pub masks-enough : (at : ℕ) → at < 64 → 64 ≤ length (masks_from at)
+masks-enough at h =
+    let all : length mask_bytes ≡ 127 = refl in
+    rw (length-take, length-drop, all) (omega arith)
+
+mask-at : (at i : ℕ) → at < 64 → i < 64 → get_or (masks_from at) i 0 ≡ get_or mask_bytes (63 - at + i) 0
+mask-at at i h l = get_or-take (127 - (63 - at)) (drop (63 - at) mask_bytes) i 0 (omega arith) ∙ get_or-drop (63 - at) mask_bytes i 0
+
+-- one turn: the bits of byte i that its mask keeps are gathered
+pub found_turn : (d at i : ℕ) (t : List ℕ) → at < 64 → i < 64 → length t ≡ 64 → get_or t i 0 < 256
+    → Found d at t i → Found (bit_or d (bit_and (get_or t i 0) (get_or (masks_from at) i 0))) at t (i + 1)
+found_turn d at i t h l n byte f = rw (mask-at at i h l) (go (ltb i at) refl)
   where
     go : (b : Bool) → ltb i at ≡ b → Found (bit_or d (bit_and (get_or t i 0) (get_or mask_bytes (63 - at + i) 0))) at t (i + 1)
     go true b =

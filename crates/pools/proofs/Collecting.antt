@@ -1,6 +1,7 @@
 -- The loop that takes the digests of the pools that a reseed uses, and empties these pools.
 -- Assumes nothing.
 use Rattle.std.proofs.Common.{◌≡◌, ℕ, ◌+◌, ◌*◌, ◌<◌, ◌≤◌, true, false, cond, ltb, ◌≢◌, List, [], ◌++◌, length, take, drop, set, sym, refl, ap, ◌∙◌, ⊎_elim, eq-or-lt_of_le, add-one, arith, length-append, length-drop, length-take, length-take-le, take_at, ext_get_or, ltb-false, ltb-true, le-ltb, lt-ltb}
+use lib.ListN.{get_or-append}
 use lib.Seq.{take-append-add}
 use Rattle.laws.specs.Lists.{tabulate, joined}
 use Rattle.laws.proofs.Cases.{by-test}
@@ -43,6 +44,11 @@ pub taken_none : (pools : List Hasher) (n : ℕ) (seed : List ℕ) → length po
 unfolding used_below joined
 taken_none pools n seed e size =
     record { left = none-emptied pools e; front = refl; size = size }
+
+-- a pool among the first ones
+pub nth-front : (front behind : List Hasher) (i : ℕ) → i < length front → nth (front ++ behind) i ≡ nth front i
+unfolding nth
+nth-front front behind i h = get_or-append front behind (record { chain = []; tail = []; length = 0 }) i h
 
 -- pool k is still there, so its digest comes
 pub next-digest : (pools : List Hasher) (n k : ℕ) (rest : List Hasher) (seed : List ℕ) (r : Result (List ℕ) TooLong)

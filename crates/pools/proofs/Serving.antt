@@ -116,8 +116,8 @@ module _ (s : Fortuna) (clock : ℕ) (out : List ℕ) (ok : Servable s clock (le
       (f, rw (x, more, e), b ∙ rw e (served-buffer (reseed_if_due s clock).generator out ok.short r))
 
 -- the two ways to the request
-pub served-due : (s : Fortuna) (clock : ℕ) (q : Fortuna) (emptied : ℕ) → due s clock ≡ true → (emptied ≡ length (used_pools (next_reseed s)))
-    × (q ≡ pool_reseed s clock)
+pub served-due : (s : Fortuna) (clock : ℕ) (q : Fortuna) (emptied : ℕ) → due s clock ≡ true
+    → (emptied ≡ length (used_pools (next_reseed s))) × (q ≡ pool_reseed s clock)
     → (q ≡ reseed_if_due s clock) × (emptied ≡ emptied_by s clock)
 unfolding reseed_if_due emptied_by
 served-due s clock q emptied e (f, g) = (rw e g, rw e f)

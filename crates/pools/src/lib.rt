@@ -33,6 +33,7 @@ pub use well_formed::any_malformed;
 // reseeded is 01's flag 'made one already', since the number comes back to 0.
 // key_requests is 02's number of requests on one key: the accepted requests, seed calls and single tries included, since the last
 // pool reseed or the fresh start, stopping at 65,535.
+// Kept: (a) `reseeded` beside the mark and the number, and no Option: C has this struct (fortuna_state).
 #[repr(C)]
 #[derive(Clone, Copy)]
 pub struct Fortuna {
@@ -45,6 +46,7 @@ pub struct Fortuna {
 }
 
 // The answer, the pools emptied, and the state that follows.
+// Kept: (d) no laws::Outcome: it has no `emptied`.
 #[derive(Clone, Copy)]
 pub struct Outcome<S> {
     pub answer: Result<(), Refusal>,
@@ -53,6 +55,7 @@ pub struct Outcome<S> {
 }
 
 // What an event comes to: its answer, and the one pool to store.
+// Kept: (a) place and pool beside the answer: the clauses, by `Gains`, say which pool that is on a refusal too.
 #[derive(Clone, Copy)]
 pub struct Gain {
     pub answer: Result<(), Refusal>,
@@ -96,6 +99,7 @@ impl Fortuna {
         any_malformed(&self.pools) || self.has_malformed_fields()
     }
 
+    // Whether a pool reseed is due at the reading.
     #[tactic(auto, using(crate::proofs::Clock::due_is), unfolding(crate::specs::State::pool_at))]
     fn is_due(&self, clock: u32) -> bool
         ensures { result ≡ due self.now clock }
@@ -103,6 +107,7 @@ impl Fortuna {
         self.pools[0].length >= 64 && (!self.reseeded || clock.wrapping_sub(self.last_reseed) > 100)
     }
 
+    // How the state stands at the reading.
     #[tactic(auto, unfolding(crate::specs::Collected::standing))]
     fn standing(&self, clock: u32) -> Standing
         ensures { result ≡ standing self.now clock }
@@ -176,8 +181,8 @@ impl Fortuna {
         }
     }
 
-    // Kept: (d) this, write_seed and update_seed differ in their check and in the reseed before; one helper that takes both as closures is longer.
     // Fills the buffer with random bytes, at a reading of the clock.
+    // Kept: (d) this, write_seed and update_seed differ in their check and in the reseed before; one helper that takes both as closures is longer.
     pub fn random_data(mut self, clock: u32, out: &mut [u8]) -> Outcome<Fortuna>
         ensures { GivesBytes (step self (request clock out.old)) result out.new }
     {

@@ -1,6 +1,5 @@
 // Why a call is refused.
-ghost use Rattle.pools.specs.Promises.{code};
-ghost use Rattle.pools.specs.Promises.{code-above-0};
+ghost use Rattle.pools.specs.Promises.{code, code-above-0};
 
 use laws::Numbered;
 

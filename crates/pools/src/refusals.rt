@@ -1,4 +1,4 @@
-// The answer of each call, from plain values. Input numbers come before state numbers, within each list the lower first.
+// The answer of each call: by its input, and by how the state stands. Input numbers come before state numbers, within each list the lower first.
 ghost use Rattle.std.specs.Prelude.{◌≡◌, ◌≤◌, length};
 ghost use Rattle.generator.specs.Steps.{decode};
 ghost use Rattle.pools.specs.Pool.{full};
@@ -19,11 +19,13 @@ const LAST_POOL: u32 = 31;
 // The bytes of a seed.
 pub(crate) const SEED_SIZE: usize = 64;
 
-// The largest n of a draw, the most tries, and the most numbers of a list.
+// The largest n of a draw: 2^32.
 const MAX_BELOW: u64 = 4294967296;
 
+// The most tries of a draw.
 pub const MAX_TRIES: u32 = 64;
 
+// The most numbers of a list to shuffle.
 const MAX_LIST: usize = 256;
 
 // Whether a pool of `size` bytes has no room for n more. The sum itself might not fit.
@@ -36,6 +38,7 @@ fn is_full(size: u64, n: u64) -> bool
 }
 
 // The answer to an event of n bytes of data, where its pool holds `size` bytes.
+// Kept: (a) five values: the clause, by `event_number`, is of these.
 #[tactic(auto, using(crate::proofs::Asked::event))]
 pub fn event_answer(
     malformed: bool,
@@ -87,7 +90,7 @@ pub fn seed_input(seed: &[u8]) -> Result<(), Refusal>
 }
 
 // Whether the 64 bytes are all equal. All of them are looked at, whatever the first ones are: a seed is secret.
-// Kept: (a) a loop to a fixed end: of `iter().fold` the compiler made tests that end at the first other byte.
+// Kept: (a) a loop to a fixed end: of `iter().fold` the compiler made tests that end at the first other byte (tests/compiled/key_bits).
 fn is_blank(seed: &[u8]) -> bool
     requires { length seed.now ≡ 64 }
     ensures { result ≡ blank seed.now }
@@ -165,6 +168,7 @@ impl Standing {
     }
 
     // The answer where b blocks are to be made.
+    // Kept: (d) the generator has these three tests of its own state: one helper would take each test and each refusal, and is longer.
     #[tactic(auto, unfolding(crate::specs::Refusals::output_state))]
     fn output_answer(self, b: u32) -> Result<(), Refusal>
         requires { b ≤ 65538 }

@@ -9,16 +9,17 @@ use hash::Hasher;
 
 // Empties the pools that reseed `number` uses, puts their digests in front of `seed`, and says how many they are. They are the first ones:
 // a power of two divides the number only where all lower ones do.
+// Kept: (d) a count beside the buffer: of the part that is filled the caller, which tells the count, would have to divide the length.
 pub(crate) fn collect_digests(pools: &mut [Hasher; 32], number: u32, seed: &mut [u8; 1024]) -> usize
     requires { any_pool malformed_pool pools.old ≡ false }
     ensures { Collects pools.old number pools.new seed.new result }
 {
     let count = (number.trailing_zeros() as usize + 1).min(32);
     let empty = Hasher::empty_pool();
-    for i in 0..count {
-        let digest = pools[i].pool_digest().unwrap();
+    for (i, pool) in pools[..count].iter_mut().enumerate() {
+        let digest = pool.pool_digest().unwrap();
         seed[32 * i..32 * i + 32].copy_from_slice(&digest);
-        pools[i] = empty;
+        *pool = empty;
     }
     count
 }

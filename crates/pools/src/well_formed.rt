@@ -22,12 +22,13 @@ fn bits_from(tail: &[u8; 64], at: usize) -> u8
     ensures { (result == 0) ≡ all_zero (drop at tail.now) }
 {
     let mut bits = 0u8;
-    for i in 0..64 {
-        bits |= tail[i] & MASKS[63 - at + i];
+    for (byte, mask) in tail.iter().zip(&MASKS[63 - at..]) {
+        bits |= byte & mask;
     }
     bits
 }
 
+// Whether a pool is too long, has bytes behind its tail that are not 0, or has another running hash than the empty pool's though it is short.
 #[tactic(auto, using(crate::proofs::WellFormed::pool))]
 fn pool_malformed(pool: &Hasher) -> bool
     ensures { result ≡ malformed_pool pool.now }

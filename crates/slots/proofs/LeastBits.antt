@@ -1,17 +1,17 @@
 -- The smallest k with n ≤ 2^k, the search for it, and the bits that a try keeps.
 -- Assumes nothing.
-use mathlib.Core.Path.{◌≡◌, refl, sym, ◌∙◌, subst}
+use mathlib.Core.Path.{◌≡◌, refl, sym, ap, ◌∙◌, subst}
 use mathlib.Core.Logic.{⊎_elim}
 use mathlib.Core.Bool.{Bool, true, false, cond}
 use mathlib.Core.List.{List, [], ◌∷◌}
-use Prim.Native.Nat.{ℕ, zero, suc, ◌+◌, ◌-◌, ◌*◌, ◌%◌, ◌^◌, ◌≤◌, ◌<◌, zero-le, min}
-use Rattle.std.specs.Int.{w32, from_le_bytes}
-use native.Mathlib.Nat.{one-mul, eq-or-lt_of_le, add-suc, zero-add, suc-add, mod-eq_of_lt, lt_of_le_of_lt, lt_of_lt_of_le}
-use native.Mathlib.Numerals.{add-one}
+use Prim.Native.Nat.{ℕ, zero, suc, ◌+◌, ◌*◌, ◌/◌, ◌%◌, ◌^◌, ◌≤◌, ◌<◌, zero-le, min, max}
+use Rattle.std.specs.Int.{IsPowerOfTwo, w32, from_le_bytes}
+use Rattle.std.proofs.lemmas.Nat.{pow_below}
+use native.Mathlib.Nat.{one-mul, pow-suc, eq-or-lt_of_le, add-suc, zero-add, suc-add, mod-eq_of_lt, lt_of_le_of_lt, lt_of_lt_of_le}
 use native.Mathlib.Omega.{arith}
 use lib.Dec.{leb, ltb, lit<}
 use lib.ListN.{length}
-use lib.Pow.{pow_mono}
+use lib.Pow.{pow_mono, pow_pos}
 use borrow.Author.Tests.{le-leb, lt-leb, leb-true, leb-false, ltb-true, ltb-false}
 use Rattle.laws.proofs.Cases.{by-test}
 use Rattle.generator.specs.Counter.{value}
@@ -70,35 +70,60 @@ bits-least n k h =
 pub least-bits : LeastBitsLaw
 least-bits n h = record { enough = bits-enough n h; least = bits-least n; few = bits-few n }
 
--- ---- the loop that looks for it: at k, at most 32 - k places to go
+-- ---- the same by the library's powers of two
 
-abbrev pub Searched : ℕ → ℕ → Type 0
-Searched n k = (k ≤ 32) × (bits_for n ≡ least_from (λ j. leb n (2 ^ j)) (32 - k) k)
+fails-all : (t : ℕ → Bool) (f k : ℕ) → ((j : ℕ) → j < f + k → t j ≡ false) → least_from t f k ≡ f + k
+unfolding least_from
+fails-all t zero k h = sym (zero-add k)
+fails-all t (suc f) k h = rw (h k (omega arith)) (fails-all t f (suc k) (λ j l. h j (omega arith)) ∙ omega arith)
 
-pub searched-none : (n : ℕ) → Searched n 0
+bits-large : (n : ℕ) → 2 ^ 32 ≤ n → bits_for n ≡ 32
 unfolding bits_for
-searched-none n = (omega arith, refl)
+bits-large n h = fails-all (λ k. leb n (2 ^ k)) 32 0 (λ j l. lt-leb n (2 ^ j) (lt_of_lt_of_le (pow_below j 32 l) h))
 
-least-here : (t : ℕ → Bool) (f k : ℕ) → t k ≡ true → least_from t f k ≡ k
-unfolding least_from
-least-here t zero k h = refl
-least-here t (suc f) k h = rw h
+bits-capped : (n : ℕ) → bits_for (min n (2 ^ 32)) ≡ bits_for n
+bits-capped n =
+    by-test
+    (ltb (2 ^ 32) n)
+    _
+    (λ t. let l = ltb-true (2 ^ 32) n t in bits-large (min n (2 ^ 32)) (omega arith) ∙ sym (bits-large n (omega arith)))
+    (λ t. let l = ltb-false (2 ^ 32) n t in ap bits_for (omega arith))
 
-pub searched-found : (n k : ℕ) → Searched n k → n ≤ 2 ^ k → k ≡ bits_for n
-searched-found n k (b, e) h = sym (e ∙ least-here (λ j. leb n (2 ^ j)) (32 - k) k (le-leb n (2 ^ k) h))
+-- k is the exponent of the least power of two that is n or more
+least-power : (n k : ℕ) → n ≤ 2 ^ 32 → n ≤ 2 ^ k → 2 ^ k / 2 < max 1 n → k ≡ bits_for n
+least-power n zero small h l = omega (arith, bits-least n 0 h)
+least-power n (suc i) small h l =
+    let double = pow-suc 2 i in
+    let some = pow_pos i in
+    by-test
+    (ltb i (bits_for n))
+    _
+    (λ t. omega (arith, bits-least n (suc i) h, ltb-true i (bits_for n) t))
+    (λ t.
+    let within : 2 ^ bits_for n ≤ 2 ^ i = pow_mono (ltb-false i (bits_for n) t) in
+    absurd (omega (arith, bits-enough n small)))
 
-pub searched-more : (n k : ℕ) → Searched n k → k < 32 → 2 ^ k < n → Searched n (k + 1)
-unfolding least_from
-searched-more n k (b, e) l h =
-    let f : 32 - k ≡ suc (32 - (k + 1)) = omega arith in
-    (omega arith, e ∙ rw (f, lt-leb n (2 ^ k) h, add-one k))
+same-exponent : (j k : ℕ) → 2 ^ k ≤ 2 ^ j → 2 ^ j < 2 * 2 ^ k → j ≡ k
+same-exponent j k h l =
+    by-test
+    (ltb j k)
+    _
+    (λ t. let below = pow_below j k (ltb-true j k t) in absurd (omega arith))
+    (λ t.
+    by-test
+    (ltb k j)
+    _
+    (λ u.
+    let above : 2 ^ suc k ≤ 2 ^ j = pow_mono (omega (arith, ltb-true k j u)) in
+    let double = pow-suc 2 k in
+    absurd (omega arith))
+    (λ u. omega (arith, ltb-false j k t, ltb-false k j u)))
 
-pub searched-all : (n k : ℕ) → Searched n k → 32 ≤ k → 32 ≡ bits_for n
-unfolding least_from
-searched-all n k (b, e) l =
-    let f : 32 - k ≡ 0 = omega arith in
-    let last : 32 ≡ k = omega arith in
-    last ∙ sym (e ∙ rw f)
+pub bits-by-power : (n p k : ℕ) → IsPowerOfTwo p → min n (2 ^ 32) ≤ p → p / 2 < max 1 (min n (2 ^ 32)) → 2 ^ k ≤ p → p < 2 * 2 ^ k → k ≡ bits_for n
+bits-by-power n p k (j, is) h half low high =
+    let same = same-exponent j k (rw (← is) low) (rw (← is) high) in
+    let power : p ≡ 2 ^ k = is ∙ ap (λ e. 2 ^ e) same in
+    least-power (min n (2 ^ 32)) k (omega arith) (rw (← power) h) (rw (← power) half) ∙ bits-capped n
 
 -- ---- the bits that a try keeps
 

@@ -7,12 +7,7 @@ ghost use Rattle.slots.specs.Fair.{bits_for};
 pub fn bits_for(n: u64) -> u32
     ensures { result ≡ bits_for n }
 {
-    for k in 0..32 {
-        if n <= 1 << k {
-            return k;
-        }
-    }
-    32
+    n.min(1 << 32).next_power_of_two().ilog2()
 }
 
 // The low k bits of the number of the bytes, least significant first, or all 32 where k is larger.

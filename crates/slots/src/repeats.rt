@@ -6,8 +6,8 @@ ghost use Rattle.slots.specs.Shuffle.{has_repeat};
 pub fn has_repeat(list: &[u16]) -> bool
     ensures { result ≡ has_repeat list.now }
 {
-    for i in 0..list.len() {
-        if list[i + 1..].contains(&list[i]) {
+    for (i, number) in list.iter().enumerate() {
+        if list[i + 1..].contains(number) {
             return true;
         }
     }

@@ -31,8 +31,8 @@ returns-then-value-n c =
     let bits = c.bits_for-k in
     let try = served at.state c.args.clock _ _ _ c.random_data-served.result (search rules) (omega arith) at.invariant.ready.1 c.random_data-served.ensures in
     let few = try.few in (
-      try-hit c.args.clock c.args.n c.args.d at._t at.emptied whole at.state at.invariant.left _ bits.result c.low_bits-value.result _ (omega arith) try bits.ensures
-          c.low_bits-value.ensures c.if-value-n.true,
+      try-hit c.args.clock c.args.n c.args.d at._t at.emptied whole at.state at.invariant.left _ bits.result c.low_bits-value.result _ (omega arith) try
+          bits.ensures c.low_bits-value.ensures c.if-value-n.true,
       omega arith,
     )
 

@@ -14,7 +14,7 @@ shuffle_list-requires c =
     let done = tested _ _ c.is_ok.ensures.value in
     let ok = is-accepted a.state (shuffle a.clock a.list.now) _ _ c.shuffle_answer-answer.ensures done c.if-is_ok.true in
     let some = c.if-list-gt1.true in
-    (some, shuffle-range a.state a.clock a.list.now ok, shuffle-passing a.state a.clock a.list.now ok some)
+    (shuffle-range a.state a.clock a.list.now ok, shuffle-passing a.state a.clock a.list.now ok some)
 
 pub returns-then-list-gt1 : goal.returns-then-list-gt1
 returns-then-list-gt1 c =

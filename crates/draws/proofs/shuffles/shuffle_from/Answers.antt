@@ -1,4 +1,4 @@
-use Rattle.std.proofs.Common.{◌≡◌, ◌+◌, ◌*◌, ◌<◌, true, false, length, refl, arith, rules}
+use Rattle.std.proofs.Common.{◌≡◌, ◌+◌, ◌-◌, ◌*◌, ◌<◌, true, false, length, refl, arith, rules}
 use Rattle.pools.specs.Events.{pool_count}
 use Rattle.pools.specs.Refusals.{max_tries}
 use Rattle.pools.specs.Draws.{shuffle_from, try_at}
@@ -13,22 +13,24 @@ unfolding pool_count
 loop-p-init c =
     let full : length c.args.state.pools ≡ pool_count = search (rules, mapped-long) in
     let a = c.args in
-    record { emptied = omega arith; ready = (full, c.requires.1); left = left-whole (shuffle_from (try_at a.clock) a.last a.order.now a.state) }
+    let whole = shuffle_from (try_at a.clock) (length a.order.now - 1) a.order.now a.state in
+    record { emptied = omega arith; ready = (full, c.requires.1); left = left-whole whole }
 
 pub make_tries-draw-requires : goal.make_tries-draw-requires
 unfolding max_tries
 make_tries-draw-requires c =
     let at = c.loop-p in
     let some = c.loop-p-test.true in
-    (omega arith, passing-fewer at.state c.args.clock 64 (64 * at.p) (omega arith) at.invariant.ready.1)
+    (omega arith, passing-fewer at.state c.args.clock 64 (64 * (at.p - 1)) (omega arith) at.invariant.ready.1)
 
 pub returns-in-Err : goal.returns-in-Err
 returns-in-Err c =
     let at = c.loop-p in
     let a = c.args in
     let draw = c.make_tries-draw in
-    let whole = shuffle_from (try_at a.clock) a.last a.order.now a.state in
-    let missed = place-missed a.clock at.p at.emptied whole at.order at.state at.invariant.left draw.result false c.loop-p-test.true draw.ensures.0
+    let some = c.loop-p-test.true in
+    let whole = shuffle_from (try_at a.clock) (length a.order.now - 1) a.order.now a.state in
+    let missed = place-missed a.clock (at.p - 1) at.emptied whole at.order at.state at.invariant.left draw.result false (omega arith) draw.ensures.0
     (tested false draw.result.answer (rw c.in-Err.is)) refl in
     (rw c.in-Err.is at missed.0, missed.1, missed.2, missed.3)
 
@@ -37,31 +39,32 @@ swap-requires-clause-b_in_bounds c =
     let at = c.loop-p in
     let a = c.args in
     let draw = c.make_tries-draw in
-    let whole = shuffle_from (try_at a.clock) a.last a.order.now a.state in
+    let some = c.loop-p-test.true in
+    let whole = shuffle_from (try_at a.clock) (length a.order.now - 1) a.order.now a.state in
     let done = tested true draw.result.answer (rw c.in-Ok.is) in
-    let low : c.in-Ok.value < at.p + 1 =
-    rw c.in-Ok.is at (place-drawn a.clock at.p at.emptied whole at.order at.state at.invariant.left draw.result true c.loop-p-test.true draw.ensures.0 done refl) in
-    let full : length at.order ≡ 256 = search rules in
-    omega (arith, c.requires.0, at.auto.p)
+    let low : c.in-Ok.value < at.p - 1 + 1 =
+    rw c.in-Ok.is at
+    (place-drawn a.clock (at.p - 1) at.emptied whole at.order at.state at.invariant.left draw.result true (omega arith) draw.ensures.0 done refl) in
+    omega (arith, at.auto.p)
 
 pub loop-p-preserved : goal.loop-p-preserved
 loop-p-preserved c =
     let at = c.loop-p in
     let a = c.args in
     let draw = c.make_tries-draw in
-    let whole = shuffle_from (try_at a.clock) a.last a.order.now a.state in
+    let whole = shuffle_from (try_at a.clock) (length a.order.now - 1) a.order.now a.state in
     let few = draw.ensures.1 in
-    let some = c.loop-p-test.true in
+    let some : 0 < at.p - 1 = omega (arith, c.loop-p-test.true) in
     let done = tested true draw.result.answer (rw c.in-Ok.is) in
-    let low : c.in-Ok.value < at.p + 1 =
-    rw c.in-Ok.is at (place-drawn a.clock at.p at.emptied whole at.order at.state at.invariant.left draw.result true some draw.ensures.0 done refl) in
-    let full : length at.order ≡ 256 = search rules in
-    let changed = swap-is at.order at.p c.in-Ok.value (omega (arith, c.requires.0, at.auto.p)) (omega (arith, c.requires.0, at.auto.p)) in
+    let low : c.in-Ok.value < at.p - 1 + 1 =
+    rw c.in-Ok.is at
+    (place-drawn a.clock (at.p - 1) at.emptied whole at.order at.state at.invariant.left draw.result true some draw.ensures.0 done refl) in
+    let changed = swap-is at.order (at.p - 1) c.in-Ok.value (omega (arith, at.auto.p)) (omega (arith, at.auto.p)) in
     record {
       emptied = omega arith;
-      ready = ready-below at.state a.clock at.p draw.result some draw.ensures.0 at.invariant.ready;
+      ready = ready-below at.state a.clock (at.p - 1) draw.result some draw.ensures.0 at.invariant.ready;
       left =
-          place-next a.clock at.p at.emptied whole at.order at.state at.invariant.left draw.result true some draw.ensures.0 done _ refl
+          place-next a.clock (at.p - 1) at.emptied whole at.order at.state at.invariant.left draw.result true some draw.ensures.0 done _ refl
           (rw (c.swap.ensures.after, c.in-Ok.is) changed);
     }
 
@@ -69,5 +72,5 @@ pub returns : goal.returns
 returns c =
     let at = c.loop-p in
     let a = c.args in
-    let whole = shuffle_from (try_at a.clock) a.last a.order.now a.state in
-    place-last a.clock at.p at.emptied whole at.order at.state at.invariant.left (omega (arith, c.loop-p-test.false))
+    let whole = shuffle_from (try_at a.clock) (length a.order.now - 1) a.order.now a.state in
+    place-last a.clock (at.p - 1) at.emptied whole at.order at.state at.invariant.left (omega (arith, c.loop-p-test.false))
