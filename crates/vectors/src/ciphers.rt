@@ -1,17 +1,15 @@
 // AES-256, byte by byte (c) and by tables (w). The line's bytes begin with the key.
 use crate::lines;
-use crate::parts::{after, front};
 use crate::text::number;
-use laws::overwrite;
+use laws::{after, front, overwrite};
 use std::io;
 
 // A block with a mask added; no byte of a mask is 0.
-fn masked(block: [u8; 16], mask: &[u8]) -> [u8; 16] {
-    let mut r = block;
-    for (b, m) in r.iter_mut().zip(mask) {
+fn masked(mut block: [u8; 16], mask: &[u8]) -> [u8; 16] {
+    for (b, m) in block.iter_mut().zip(mask) {
         *b ^= *m;
     }
-    r
+    block
 }
 
 // Byte by byte: a block under the key (e), 4 bytes of the expanded key from a place on (w), a block under the expanded key with a mask

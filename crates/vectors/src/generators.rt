@@ -1,9 +1,9 @@
 // The generator, on the state that earlier lines left. All calls are lent one buffer or its front, as earlier lines left it.
+use crate::buffers::ROOM;
 use crate::lines;
-use crate::parts::{ROOM, after, front};
 use crate::text::number;
 use generator::{Generator, Outcome};
-use laws::{number_of, overwrite};
+use laws::{after, front, number_of, overwrite};
 use std::io;
 
 // A state that no call here has led to: key and counter.
@@ -36,8 +36,7 @@ fn buffer(rt: &impl Print, out: &[u8]) -> io::Result<()> {
 }
 
 // Reseeds by what the buffer holds, each before a request that fills it, as often as said.
-fn turns(state: Generator, times: u64, out: &mut [u8]) -> Generator {
-    let mut g = state;
+fn turns(mut g: Generator, times: u64, out: &mut [u8]) -> Generator {
     for _ in 0..times {
         g = g.reseed(out).next;
         g = g.pseudo_random_data(out).next;

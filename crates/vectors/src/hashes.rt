@@ -1,9 +1,8 @@
 // SHA-256 and D: of the line's bytes, and of a running hash that earlier lines left.
 use crate::lines;
-use crate::parts::{after, front};
 use crate::text::number;
 use hash::{Hasher, TooLong};
-use laws::number_of;
+use laws::{after, front, number_of};
 use std::io;
 
 // A state that no message is known for: another hash value, and a tail with no zeros after its bytes.
@@ -25,8 +24,7 @@ fn given(length: u64) -> Hasher {
 }
 
 // The part is absorbed as often as said.
-fn absorbed(state: Hasher, times: u64, part: &[u8]) -> Hasher {
-    let mut h = state;
+fn absorbed(mut h: Hasher, times: u64, part: &[u8]) -> Hasher {
     for _ in 0..times {
         h = h.absorb(part).next;
     }

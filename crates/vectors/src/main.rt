@@ -6,16 +6,17 @@
 // the answers without this program.
 #![tactic(auto)]
 
+mod buffers;
 mod ciphers;
 mod generators;
 mod hashes;
 mod lines;
-mod parts;
 mod text;
 
+use buffers::{ROOM, read_full, space};
 use generator::Generator;
 use hash::Hasher;
-use parts::{ROOM, after, front, read_full, space};
+use laws::{after, front};
 use std::io;
 use text::decode;
 
@@ -30,7 +31,7 @@ struct Held {
 }
 
 // The fewest bytes that a line's letters ask for, where they name a call.
-// Kept: calls are the letters of the lines (an enum would say each letter a second time: `b'e' => ..` reads as the line does).
+// Kept: (d) calls are the letters of the lines: an enum would say each a second time, where `b'e' => ..` reads as the line does.
 fn least(letter: u8, call: u8) -> Option<usize> {
     match (letter, call) {
         (b'h', b's' | b'd' | b'f' | b'p' | b'A' | b'F' | b'P') => Some(0),
