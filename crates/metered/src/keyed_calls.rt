@@ -4,7 +4,7 @@
 ghost use Rattle.keyed.specs.Calls.{event, request, update, write};
 ghost use Rattle.metered.specs.KeyedMetering.{KeyedMeters, KeyedMetersBytes};
 
-use crate::gates::{charge, gate, refused};
+use crate::gates::{behind_gate, charge, refused};
 use keyed::Keyed;
 use pools::Outcome;
 use quotas::Quota;
@@ -26,28 +26,22 @@ pub fn keyed_add_event(state: Keyed, list: &mut [Quota], source: u32, data: &[u8
 pub fn keyed_random_data(state: Keyed, list: &[Quota], out: &mut [u8]) -> Outcome<Keyed>
     ensures { KeyedMetersBytes state list.now (request out.old) result out.new }
 {
-    match gate(list, pools::request_input(out.len())) {
-        Ok(()) => state.random_data(out),
-        Err(refusal) => refused(state, refusal),
-    }
+    let call = |out: &mut [u8]| state.random_data(out);
+    behind_gate(state, list, pools::request_input(out.len()), out, call)
 }
 
 // A seed update.
 pub fn keyed_update_seed(state: Keyed, list: &[Quota], seed: &mut [u8]) -> Outcome<Keyed>
     ensures { KeyedMetersBytes state list.now (update seed.old) result seed.new }
 {
-    match gate(list, pools::update_input(seed)) {
-        Ok(()) => state.update_seed(seed),
-        Err(refusal) => refused(state, refusal),
-    }
+    let call = |seed: &mut [u8]| state.update_seed(seed);
+    behind_gate(state, list, pools::update_input(seed), seed, call)
 }
 
 // A seed write.
 pub fn keyed_write_seed(state: Keyed, list: &[Quota], seed: &mut [u8]) -> Outcome<Keyed>
     ensures { KeyedMetersBytes state list.now (write seed.old) result seed.new }
 {
-    match gate(list, pools::seed_input(seed)) {
-        Ok(()) => state.write_seed(seed),
-        Err(refusal) => refused(state, refusal),
-    }
+    let call = |seed: &mut [u8]| state.write_seed(seed);
+    behind_gate(state, list, pools::seed_input(seed), seed, call)
 }
