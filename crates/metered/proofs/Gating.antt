@@ -1,6 +1,6 @@
 -- What the gate of a list gives, and a call of either scheduler that is no event behind it: it has the input number i and the state number n.
 -- Assumes nothing.
-use mathlib.Core.Path.{◌≡◌, refl, sym, ap, subst, ◌∙◌}
+use mathlib.Core.Path.{◌≡◌, refl, sym, ap, ◌∙◌}
 use mathlib.Core.Bool.{Bool, true, false, cond}
 use mathlib.Core.Logic.{◌≢◌}
 use mathlib.Core.List.{List}
@@ -11,17 +11,16 @@ use borrow.Author.Tests.{eqb-true, eqb-false, ne_eqb}
 use Rattle.std.proofs.Common.{Result, Ok, Err}
 use Rattle.std.specs.Result.{is_ok, result_and}
 use Rattle.laws.proofs.Cases.{by-test}
-use Rattle.pools.specs.declared.Outcome as Method
 use Rattle.pools.specs.declared.refusal.Refusal.{Refusal}
 use Rattle.pools.specs.Refusals.{and_then}
 use Rattle.pools.specs.Effects.{Effect, unchanged}
 use Rattle.pools.specs.Calls.{Outcome, outcome}
-use Rattle.pools.specs.Promises.{code, code-above-0, number, GivesBytes}
+use Rattle.pools.specs.Promises.{code, code-above-0, number}
 use Rattle.pools.proofs.Chains.{then-first, then-second, both-passed}
 use Rattle.pools.proofs.Outcomes.{outcome-refused}
 use Rattle.quotas.specs.declared.Quota.{Quota}
 use Rattle.quotas.specs.Records.{malformed_quotas, quotas_number}
-use Rattle.metered.specs.Metering.{gate_number, Behind}
+use Rattle.metered.specs.Metering.{gate_number}
 
 -- ---- the gate's answer
 
@@ -97,17 +96,3 @@ module _ {S : Type 0} (rs : List Quota) (i n : ℕ) (found : Bool) (value : ℕ)
       let number_is : and_then i (and_then (quotas_number rs) n) ≡ k =
       ap (and_then i) (then-first (quotas_number rs) n (eqb-false _ 0 t) ∙ fault) ∙ sym (h ∙ rw t) in
       rw number_is (outcome-refused k found value buffer s done some))
-
--- what is told of a call behind the gate is what E is, where E is the call's own outcome D with the gate open, and else a refusal
-pub behind-gives :
-    {S : Type 0} (fault i : ℕ) (s : S) (buffer : List ℕ) (D E : Outcome S) (r : Method.Outcome S) (out : List ℕ) →
-    (0 ≡ gate_number fault i → D ≡ E) → ((k : ℕ) → k ≢ 0 → k ≡ gate_number fault i → E ≡ record { number = k; value = 0; effect = unchanged buffer s }) →
-    Behind fault i s buffer (GivesBytes D) r out → GivesBytes E r out
-unfolding unchanged
-behind-gives {S} fault i s buffer D E r out passed refused h =
-    let k : ℕ = gate_number fault i in
-    by-test (eqb 0 k) _
-    (λ t. subst (λ (o : Outcome S). GivesBytes o r out) (passed (eqb-true 0 k t)) (h.0 (eqb-true 0 k t)))
-    (λ t.
-    let g = h.1 (eqb-false 0 k t) in
-    rw (refused k (λ z. eqb-false 0 k t (sym z)) refl) ((g.0, g.1, g.2), g.3))

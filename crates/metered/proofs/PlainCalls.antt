@@ -1,6 +1,7 @@
 -- A call of the station that is no event, behind the gate of its list, with the list cleared after it: what the call with its list promises.
 -- Assumes nothing.
 use mathlib.Core.Path.{◌≡◌, refl, sym, ap, subst, ◌∙◌}
+use mathlib.Core.Logic.{◌⊎◌, inl, inr}
 use mathlib.Core.List.{List}
 use Prim.Native.Nat.{ℕ}
 use lib.Dec.{eqb, ltb}
@@ -13,7 +14,7 @@ use Rattle.pools.specs.declared.refusal.Refusal.{Refusal}
 use Rattle.pools.specs.Effects.{unchanged}
 use Rattle.pools.specs.Calls.{Call, request, update, write, draw, shuffle, Outcome, step}
 use Rattle.pools.specs.Calls.{input_buffer, input_number, state_number, call_found, call_value, call_effect}
-use Rattle.pools.specs.Promises.{code, GivesBytes, GivesValue}
+use Rattle.pools.specs.Promises.{code, number, GivesBytes, GivesValue}
 use Rattle.pools.proofs.Chains.{call-chains}
 use Rattle.draws.specs.declared.draw.Draw.{Draw}
 use Rattle.quotas.specs.declared.Quota.{Quota}
@@ -21,8 +22,8 @@ use Rattle.quotas.specs.Records.{quotas_number}
 use Rattle.quotas.specs.Charges.{cleared_after}
 use Rattle.quotas.specs.Entries.{within, taking, list_number, entry_number, entry_step, charged_for, quotas_left}
 use Rattle.quotas.specs.Left.{left_by}
-use Rattle.metered.specs.Metering.{gate_number, Behind, MetersBytes, MetersValue}
-use Rattle.metered.proofs.Gating.{some-code, passed-is, refused-is, behind-gives}
+use Rattle.metered.specs.Metering.{gate_number, MetersBytes, MetersValue}
+use Rattle.metered.proofs.Gating.{some-code, passed-is, refused-is}
 
 -- ---- calls that are no events: the list gives them 37 alone, and they charge nothing
 
@@ -78,14 +79,26 @@ module _ (s : Fortuna) (rs : List Quota) (c : Call) (p : Plain c) where
   pub left_is : (emptied : ℕ) (zs : List Quota) → emptied ≡ E.effect.emptied → zs ≡ cleared_after emptied rs → zs ≡ left_by s rs c
   left_is emptied zs k l = l ∙ ap (λ (m : ℕ). cleared_after m rs) k ∙ sym left-plain
 
-  -- what settled tells, where the input number is told too, is what the call with its list promises
+  -- what a call behind the gate gives, i its input number: it passed, or it is refused
+  abbrev pub Passed : ℕ → Method.Outcome Fortuna → List ℕ → Type 0
+  Passed i r out = GivesBytes (step s c) r out × (0 ≡ gate_number (quotas_number rs) i)
+
+  abbrev pub Refused : ℕ → Method.Outcome Fortuna → List ℕ → Type 0
+  Refused i r out =
+      (refusal : Refusal) × (code refusal ≡ gate_number (quotas_number rs) i)
+      × ((r.answer ≡ Err refusal) × (r.emptied ≡ 0) × (r.next ≡ s)) × (out ≡ input_buffer c)
+
+  gives-bytes : (r : Method.Outcome Fortuna) (out : List ℕ) → Passed (input_number c) r out ⊎ Refused (input_number c) r out → GivesBytes E r out
+  unfolding unchanged
+  gives-bytes r out (inl (g, h)) = subst (λ (o : Outcome Fortuna). GivesBytes o r out) (passed h) g
+  gives-bytes r out (inr (refusal, h, g, same)) = rw (refused (code refusal) (some-code refusal) h) ((ap number g.0, g.1, g.2), same)
+
+  -- with its list cleared it is what the call with its list promises
   pub meters-bytes :
-      (r : Method.Outcome Fortuna) (zs : List Quota) (out : List ℕ) (i : ℕ) → i ≡ input_number c →
-      Behind (quotas_number rs) i s (input_buffer c) (GivesBytes (step s c)) r out → zs ≡ cleared_after r.emptied rs →
-      MetersBytes s rs c r zs out
+      (r : Method.Outcome Fortuna) (zs : List Quota) (out : List ℕ) (i : ℕ) → i ≡ input_number c → Passed i r out ⊎ Refused i r out →
+      zs ≡ cleared_after r.emptied rs → MetersBytes s rs c r zs out
   meters-bytes r zs out i is h l =
-      let told = subst (λ (n : ℕ). Behind (quotas_number rs) n s (input_buffer c) (GivesBytes (step s c)) r out) is h in
-      let gives = behind-gives (quotas_number rs) (input_number c) s (input_buffer c) (step s c) E r out passed refused told in
+      let gives = gives-bytes r out (subst (λ (n : ℕ). Passed n r out ⊎ Refused n r out) is h) in
       (gives, left_is r.emptied zs gives.0.1 l)
 
   -- a draw that passed, and one that is refused

@@ -7,7 +7,7 @@ use Rattle.pools.specs.declared.Outcome.{Outcome}
 use Rattle.pools.specs.Events.{max_data, gain}
 use Rattle.pools.specs.Refusals.{and_then}
 use Rattle.pools.specs.Calls.{Call, event}
-use Rattle.pools.specs.Promises.{number, Gives, GivesBytes, GivesValue, Gains}
+use Rattle.pools.specs.Promises.{Gives, GivesBytes, GivesValue, Gains}
 use Rattle.draws.specs.declared.draw.Draw.{Draw}
 use Rattle.quotas.specs.declared.Quota.{Quota}
 use Rattle.quotas.specs.Entries.{within, taking, entry_step}
@@ -35,13 +35,6 @@ MetersGain s rs source pool content g left =
 -- the number that refuses a call that is no event because its list has the fault: its own input number, or 37
 unfoldable pub gate_number : ℕ → ℕ → ℕ
 gate_number fault input = cond (eqb fault 0) 0 (and_then input 37)
-
--- a call behind the gate of a list with the fault, of the state s and what was lent: where the gate is open, Called says what it gives and what it
--- leaves there; else it is refused by the gate's number, and all is as it was
-abbrev pub Behind : {S B : Type 0} → ℕ → ℕ → S → B → (Outcome S → B → Type 0) → Outcome S → B → Type 0
-Behind fault input s before Called r after =
-    (0 ≡ gate_number fault input → Called r after)
-    × ((0 ≡ gate_number fault input → ⊥) → (number r.answer ≡ gate_number fault input) × (r.emptied ≡ 0) × (r.next ≡ s) × (after ≡ before))
 
 -- an event's number without 38 and 39, from its own without a list and the list's fault
 unfoldable pub known_of : ℕ → ℕ → ℕ

@@ -1,35 +1,13 @@
 // Requests, seed calls, draws and shuffles with a list of quotas: 37 by the list, and nothing spent after a pool reseed.
+// Kept: (a) calls of one shape: with the call handed to one function a request takes 10,696 bytes of stack, where include/fortuna.h says 7,936.
 // Kept: (a) state and list side by side, here, in events and in keyed_calls: docs/decisions/forms.md, 'Calls with a list are functions'.
-ghost use Rattle.std.specs.Prelude.{◌≡◌};
-ghost use Rattle.std.specs.Fn.{FnOnceReturnsAtMut};
 ghost use Rattle.pools.specs.Calls.{request, update, write, draw, shuffle};
-ghost use Rattle.pools.specs.Promises.{number};
-ghost use Rattle.quotas.specs.Records.{quotas_number};
-ghost use Rattle.quotas.specs.Charges.{cleared_after};
-ghost use Rattle.metered.specs.Metering.{Behind, MetersBytes, MetersValue};
+ghost use Rattle.metered.specs.Metering.{MetersBytes, MetersValue};
 
-use crate::gates::{behind_gate, gate};
+use crate::gates::{gate, refused};
 use draws::Draw;
-use pools::{Fortuna, Outcome, Refusal};
+use pools::{Fortuna, Outcome};
 use quotas::Quota;
-
-// A call on what is lent, behind the gate of its list, which is cleared after a pool reseed.
-fn settled<T: Copy, F: FnOnce(&mut [T]) -> Outcome<Fortuna> + Drop>(
-    state: Fortuna,
-    list: &mut [Quota],
-    input: Result<(), Refusal>,
-    lent: &mut [T],
-    call: F,
-) -> Outcome<Fortuna>
-    requires { F.IsAlwaysCallable call }
-    ensures behind { Behind (quotas_number list.old) (number input) state lent.old
-        (FnOnceReturnsAtMut F.FnOnce call lent.old) result lent.new }
-    ensures cleared { list.new ≡ cleared_after result.emptied list.old }
-{
-    let outcome = behind_gate(state, list, input, lent, call);
-    quotas::clear_after(list, outcome.emptied);
-    outcome
-}
 
 // A request.
 pub fn random_data(
@@ -40,8 +18,12 @@ pub fn random_data(
 ) -> Outcome<Fortuna>
     ensures { MetersBytes state list.old (request clock out.old) result list.new out.new }
 {
-    let call = |out: &mut [u8]| state.random_data(clock, out);
-    settled(state, list, pools::request_input(out.len()), out, call)
+    let outcome = match gate(list, pools::request_input(out.len())) {
+        Ok(()) => state.random_data(clock, out),
+        Err(refusal) => refused(state, refusal),
+    };
+    quotas::clear_after(list, outcome.emptied);
+    outcome
 }
 
 // A seed update.
@@ -53,8 +35,12 @@ pub fn update_seed(
 ) -> Outcome<Fortuna>
     ensures { MetersBytes state list.old (update clock seed.old) result list.new seed.new }
 {
-    let call = |seed: &mut [u8]| state.update_seed(clock, seed);
-    settled(state, list, pools::update_input(seed), seed, call)
+    let outcome = match gate(list, pools::update_input(seed)) {
+        Ok(()) => state.update_seed(clock, seed),
+        Err(refusal) => refused(state, refusal),
+    };
+    quotas::clear_after(list, outcome.emptied);
+    outcome
 }
 
 // A seed write.
@@ -66,8 +52,12 @@ pub fn write_seed(
 ) -> Outcome<Fortuna>
     ensures { MetersBytes state list.old (write clock seed.old) result list.new seed.new }
 {
-    let call = |seed: &mut [u8]| state.write_seed(clock, seed);
-    settled(state, list, pools::seed_input(seed), seed, call)
+    let outcome = match gate(list, pools::seed_input(seed)) {
+        Ok(()) => state.write_seed(clock, seed),
+        Err(refusal) => refused(state, refusal),
+    };
+    quotas::clear_after(list, outcome.emptied);
+    outcome
 }
 
 // A shuffle.
@@ -79,17 +69,21 @@ pub fn shuffle(
 ) -> Outcome<Fortuna>
     ensures { MetersBytes state list.old (shuffle clock numbers.old) result list.new numbers.new }
 {
-    let call = |numbers: &mut [u16]| draws::shuffle(state, clock, numbers);
-    settled(state, list, pools::list_input(numbers), numbers, call)
+    let outcome = match gate(list, pools::list_input(numbers)) {
+        Ok(()) => draws::shuffle(state, clock, numbers),
+        Err(refusal) => refused(state, refusal),
+    };
+    quotas::clear_after(list, outcome.emptied);
+    outcome
 }
 
 // A draw.
 pub fn random_below(state: Fortuna, list: &mut [Quota], clock: u32, n: u64, d: u32) -> Draw
     ensures { MetersValue state list.old (draw clock n d) result list.new }
 {
-    // Kept: (d) gate and refusal by hand: a draw gives a Draw, which is no Outcome, and is lent no bytes.
     let draw = match gate(list, pools::draw_input(n, d)) {
         Ok(()) => draws::random_below(state, clock, n, d),
+        // Kept: (d) by hand, here and in draws alone: a Draw is no Outcome, so `refused` can't make it.
         Err(refusal) => Draw {
             answer: Err(refusal),
             emptied: 0,

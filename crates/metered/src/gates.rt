@@ -1,11 +1,10 @@
 // What a list says of a call of either scheduler: 37 for a call that is no event; 37, 38 or 39 for an event, which is charged where it is
 // accepted. A call's own input numbers come before these, its state numbers after.
 ghost use Rattle.std.specs.Prelude.{◌≡◌, Err};
-ghost use Rattle.std.specs.Fn.{FnOnceReturnsAtMut};
 ghost use Rattle.pools.specs.Promises.{number};
 ghost use Rattle.quotas.specs.Records.{quotas_number};
 ghost use Rattle.quotas.specs.Charges.{charge_number, charge_list};
-ghost use Rattle.metered.specs.Metering.{gate_number, Behind, known_of, cost_of};
+ghost use Rattle.metered.specs.Metering.{gate_number, known_of, cost_of};
 
 use laws::{Numbered, number_of};
 use pools::{Outcome, Refusal};
@@ -31,24 +30,6 @@ pub(crate) fn refused<S>(state: S, refusal: Refusal) -> Outcome<S>
         answer: Err(refusal),
         emptied: 0,
         next: state,
-    }
-}
-
-// A call that is no event, on what is lent: it is made where the gate of its list is open.
-pub(crate) fn behind_gate<S: Copy, T: Copy, F: FnOnce(&mut [T]) -> Outcome<S> + Drop>(
-    state: S,
-    list: &[Quota],
-    input: Result<(), Refusal>,
-    lent: &mut [T],
-    call: F,
-) -> Outcome<S>
-    requires { F.IsAlwaysCallable call }
-    ensures { Behind (quotas_number list.now) (number input) state lent.old
-        (FnOnceReturnsAtMut F.FnOnce call lent.old) result lent.new }
-{
-    match gate(list, input) {
-        Ok(()) => call(lent),
-        Err(refusal) => refused(state, refusal),
     }
 }
 

@@ -1,12 +1,18 @@
-use Rattle.std.proofs.Common.{rules}
+use Rattle.std.proofs.Common.{refl}
+use mathlib.Core.Logic.{inl, inr}
 use Rattle.pools.specs.Calls.{request, input_number, input_buffer}
 use Rattle.metered.proofs.PlainCalls.{request-plain, meters-bytes}
 use Rattle.metered.proofs.calls.random_data.Goals as goal
+use Rattle.metered.proofs.calls.random_data.Goals.{in-Ok, in-Err}
 
 pub returns : goal.returns
 unfolding input_number input_buffer
 returns c =
     let a = c.args in
-    let told = c.settled.ensures.behind in
-    meters-bytes a.state a.list.now (request a.clock a.out.now) (request-plain a.clock a.out.now) _ _ _ _ c.request_input.ensures
-    (λ t. let made = told.0 t in search rules, told.1) c.settled.ensures.cleared
+    let j = c.match-gate in
+    meters-bytes a.state a.list.now (request a.clock a.out.now) (request-plain a.clock a.out.now) j.outcome _ j.out _ c.request_input.ensures
+    (elim j.branch [
+      | in-Ok w ↦ rw (w.outcome-is, w.out-is) (inl (w.random_data-outcome.ensures, w.in-Ok.ensures))
+      | in-Err w ↦ rw (w.outcome-is, w.out-is) (inr (w.in-Err.refusal, w.in-Err.ensures, w.refused-outcome.ensures, refl))
+    ])
+    c.clear_after.ensures

@@ -1,12 +1,18 @@
-use Rattle.std.proofs.Common.{rules}
+use Rattle.std.proofs.Common.{refl}
+use mathlib.Core.Logic.{inl, inr}
 use Rattle.pools.specs.Calls.{write, input_number, input_buffer}
 use Rattle.metered.proofs.PlainCalls.{write-plain, meters-bytes}
 use Rattle.metered.proofs.calls.write_seed.Goals as goal
+use Rattle.metered.proofs.calls.write_seed.Goals.{in-Ok, in-Err}
 
 pub returns : goal.returns
 unfolding input_number input_buffer
 returns c =
     let a = c.args in
-    let told = c.settled.ensures.behind in
-    meters-bytes a.state a.list.now (write a.clock a.seed.now) (write-plain a.clock a.seed.now) _ _ _ _ c.seed_input.ensures
-    (λ t. let made = told.0 t in search rules, told.1) c.settled.ensures.cleared
+    let j = c.match-gate in
+    meters-bytes a.state a.list.now (write a.clock a.seed.now) (write-plain a.clock a.seed.now) j.outcome _ j.seed _ c.seed_input.ensures
+    (elim j.branch [
+      | in-Ok w ↦ rw (w.outcome-is, w.seed-is) (inl (w.write_seed-outcome.ensures, w.in-Ok.ensures))
+      | in-Err w ↦ rw (w.outcome-is, w.seed-is) (inr (w.in-Err.refusal, w.in-Err.ensures, w.refused-outcome.ensures, refl))
+    ])
+    c.clear_after.ensures
