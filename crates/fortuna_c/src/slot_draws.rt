@@ -4,7 +4,7 @@ ghost use Rattle.pools.specs.Promises.{number, value_of};
 ghost use Rattle.pools.specs.Calls.{draw, shuffle, step};
 ghost use Rattle.fortuna_c.specs.Outcomes.{LeavesBytes, LeavesValue};
 
-use crate::station::{FortunaAnswer, answer_of};
+use crate::station::{FortunaAnswer, left};
 use draws::Draw;
 use laws::number_of;
 use pools::Fortuna;
@@ -50,7 +50,5 @@ pub extern "C" fn fortuna_shuffle(
 ) -> FortunaAnswer
     ensures { LeavesBytes (step state.old (shuffle clock list.old)) result state.new list.new }
 {
-    let o = draws::shuffle(*state, clock, list);
-    *state = o.next;
-    answer_of(&o)
+    left(&draws::shuffle(*state, clock, list), state)
 }
