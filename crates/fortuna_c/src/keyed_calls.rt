@@ -52,6 +52,7 @@ pub extern "C" fn fortuna_keyed_input(scheduler_key: &[u8; 32], step: u64) -> u3
 }
 
 // The pool that a step empties, or 32 where it empties none.
+// Kept: (a) 32 for none: C has no Option, and include/fortuna.h says so.
 #[unsafe(no_mangle)]
 pub extern "C" fn fortuna_keyed_output(step: u64) -> u32
     ensures { result ≡ emptied_at step }

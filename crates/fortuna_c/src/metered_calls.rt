@@ -2,7 +2,7 @@
 ghost use Rattle.pools.specs.Calls.{event, request, update, write, draw, shuffle};
 ghost use Rattle.fortuna_c.specs.Outcomes.{MeteredLeaves, MeteredLeavesBytes, MeteredLeavesValue};
 
-use crate::slot_draws::{FortunaDraw, draw_of};
+use crate::slot_draws::{FortunaDraw, draw_left};
 use crate::station::{FortunaAnswer, left, put_pool};
 use laws::number_of;
 use pools::Fortuna;
@@ -73,9 +73,7 @@ pub extern "C" fn fortuna_metered_random_below(
 ) -> FortunaDraw
     ensures { MeteredLeavesValue state.old list.old (draw clock n tries) result state.new list.new }
 {
-    let d = metered::random_below(*state, list, clock, n, tries);
-    *state = d.next;
-    draw_of(d)
+    draw_left(&metered::random_below(*state, list, clock, n, tries), state)
 }
 
 #[unsafe(no_mangle)]

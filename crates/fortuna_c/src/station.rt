@@ -11,6 +11,7 @@ use laws::number_of;
 use pools::{Fortuna, Outcome};
 
 // The refusal's number, or 0, and how many pools were emptied.
+// Kept: (a) a number in place of a Result: C has none, and include/fortuna.h has this struct.
 #[repr(C)]
 #[derive(Clone, Copy)]
 pub struct FortunaAnswer {
