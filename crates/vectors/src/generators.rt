@@ -1,5 +1,6 @@
 // The generator, on the state that earlier lines left. All calls are lent one buffer or its front, as earlier lines left it.
 use crate::buffers::ROOM;
+use crate::cases::Case;
 use crate::lines;
 use crate::text::number;
 use generator::{Generator, Outcome};
@@ -45,36 +46,24 @@ fn turns(mut g: Generator, times: u64, out: &mut [u8]) -> Generator {
 }
 
 // Blocks (b), turns (t), as often as the bytes after the buffer's length say, or a request (r).
-fn filled(
-    rt: &impl Print,
-    call: u8,
-    data: &[u8],
-    g: Generator,
-    out: &mut [u8],
-) -> io::Result<Generator> {
-    match call {
+fn filled(rt: &impl Print, case: Case, g: Generator, out: &mut [u8]) -> io::Result<Generator> {
+    match case.call {
         b'b' => shown(rt, g.generate_blocks(out)),
-        b't' => Ok(turns(g, number(front(after(data, 3), 2)), out)),
+        b't' => Ok(turns(g, number(front(after(case.data, 3), 2)), out)),
         _ => shown(rt, g.pseudo_random_data(out)),
     }
 }
 
 // A call on the buffer: the first three bytes are its length, and those after the numbers what its front holds.
-fn lent(
-    rt: &impl Print,
-    call: u8,
-    data: &[u8],
-    g: Generator,
-    out: &mut [u8; ROOM],
-) -> io::Result<Generator> {
-    let numbers = if call == b't' { 5 } else { 3 };
-    overwrite(out, after(data, numbers));
-    let n = number(front(data, 3)) as usize;
+fn lent(rt: &impl Print, case: Case, g: Generator, out: &mut [u8; ROOM]) -> io::Result<Generator> {
+    let numbers = if case.call == b't' { 5 } else { 3 };
+    overwrite(out, after(case.data, numbers));
+    let n = number(front(case.data, 3)) as usize;
     let next = match out.get_mut(..n) {
-        Some(part) => filled(rt, call, data, g, part)?,
+        Some(part) => filled(rt, case, g, part)?,
         None => g,
     };
-    if call != b't' {
+    if case.call != b't' {
         buffer(rt, front(out, n))?;
     }
     Ok(next)
@@ -83,15 +72,14 @@ fn lent(
 // A new state (n), a given one (k), a reseed (s), or a call on the buffer.
 pub(crate) fn called(
     rt: &impl Print,
-    call: u8,
-    data: &[u8],
+    case: Case,
     g: Generator,
     out: &mut [u8; ROOM],
 ) -> io::Result<Generator> {
-    match call {
+    match case.call {
         b'n' => Ok(Generator::new()),
-        b'k' => Ok(given(data)),
-        b's' => shown(rt, g.reseed(data)),
-        _ => lent(rt, call, data, g, out),
+        b'k' => Ok(given(case.data)),
+        b's' => shown(rt, g.reseed(case.data)),
+        _ => lent(rt, case, g, out),
     }
 }
