@@ -7,6 +7,7 @@ use convert::convert;
 use laws::number_of;
 
 // 0 or the number that refused a line; that line's number, from 1, or 0; and how many bytes were written.
+// Kept: (a) a number, and line 0 for none: C has no Result, and include/fortuna.h has this struct.
 #[repr(C)]
 #[derive(Clone, Copy)]
 pub struct FortunaConversion {

@@ -1,10 +1,18 @@
 // CTR_DRBG of NIST SP 800-90A, on a state that the caller lends.
 ghost use Rattle.std.specs.Prelude.{◌≡◌};
-ghost use Rattle.ctr_drbg.specs.Operations.{fresh};
+ghost use Rattle.ctr_drbg.specs.Operations.{fresh, number};
 ghost use Rattle.fortuna_c.specs.CtrDrbgAnswers.{LeavesInstantiated, LeavesReseeded, LeavesGenerated};
 
-use ctr_drbg::CtrDrbg;
+use ctr_drbg::{CtrDrbg, Outcome};
 use laws::number_of;
+
+// Stores the state that a call leaves, and gives the answer's number.
+fn left(o: Outcome, state: &mut CtrDrbg) -> u32
+    ensures { (result ≡ number o.answer) × (state.new ≡ o.next) }
+{
+    *state = o.next;
+    number_of(o.answer)
+}
 
 #[unsafe(no_mangle)]
 pub extern "C" fn fortuna_ctr_drbg_new() -> CtrDrbg
@@ -21,9 +29,7 @@ pub extern "C" fn fortuna_ctr_drbg_instantiate(
 ) -> u32
     ensures { LeavesInstantiated state.old entropy.now personalization.now result state.new }
 {
-    let seeded = state.instantiate(entropy, personalization);
-    *state = seeded.next;
-    number_of(seeded.answer)
+    left(state.instantiate(entropy, personalization), state)
 }
 
 #[unsafe(no_mangle)]
@@ -34,9 +40,7 @@ pub extern "C" fn fortuna_ctr_drbg_reseed(
 ) -> u32
     ensures { LeavesReseeded state.old entropy.now additional.now result state.new }
 {
-    let reseeded = state.reseed(entropy, additional);
-    *state = reseeded.next;
-    number_of(reseeded.answer)
+    left(state.reseed(entropy, additional), state)
 }
 
 #[unsafe(no_mangle)]
@@ -47,7 +51,5 @@ pub extern "C" fn fortuna_ctr_drbg_generate(
 ) -> u32
     ensures { LeavesGenerated state.old out.old additional.now result state.new out.new }
 {
-    let filled = state.generate(out, additional);
-    *state = filled.next;
-    number_of(filled.answer)
+    left(state.generate(out, additional), state)
 }

@@ -5,6 +5,8 @@ ghost use Rattle.generator.specs.Operations.{number, fresh, reseed_answer, resee
 use generator::{Generator, Outcome};
 use laws::number_of;
 
+// The refusal's number, or 0, and the state that follows.
+// Kept: (a) a number in place of a Result: C has none, and include/fortuna.h has this struct.
 #[repr(C)]
 #[derive(Clone, Copy)]
 pub struct FortunaGeneratorOutcome {

@@ -7,6 +7,7 @@ use health::{Failure, HealthState, Refusal};
 use laws::number_of;
 
 // The refusal's number, or 0; whether the sample at the place fails each test. Place 0 and neither test where no sample failed.
+// Kept: (a) a number, and fields that hold where a sample failed: C has no Result and no Option, and include/fortuna.h has this struct.
 #[repr(C)]
 #[derive(Clone, Copy)]
 pub struct FortunaHealthAnswer {

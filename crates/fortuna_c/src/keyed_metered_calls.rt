@@ -3,7 +3,7 @@
 ghost use Rattle.keyed.specs.Calls.{event, request, update, write};
 ghost use Rattle.fortuna_c.specs.KeyedOutcomes.{KeyedMeteredLeaves, KeyedMeteredLeavesBytes};
 
-use crate::station::{FortunaAnswer, answer_of};
+use crate::station::{FortunaAnswer, left};
 use keyed::Keyed;
 use quotas::Quota;
 
@@ -17,9 +17,7 @@ pub extern "C" fn fortuna_keyed_metered_event(
     ensures { KeyedMeteredLeaves state.old list.old (event source «data».now) result
         state.new list.new }
 {
-    let o = metered::keyed_add_event(*state, list, source, data);
-    *state = o.next;
-    answer_of(&o)
+    left(&metered::keyed_add_event(*state, list, source, data), state)
 }
 
 #[unsafe(no_mangle)]
@@ -31,9 +29,7 @@ pub extern "C" fn fortuna_keyed_metered_request(
     ensures { KeyedMeteredLeavesBytes state.old list.now (request out.old) result
         state.new out.new }
 {
-    let o = metered::keyed_random_data(*state, list, out);
-    *state = o.next;
-    answer_of(&o)
+    left(&metered::keyed_random_data(*state, list, out), state)
 }
 
 #[unsafe(no_mangle)]
@@ -45,9 +41,7 @@ pub extern "C" fn fortuna_keyed_metered_update(
     ensures { KeyedMeteredLeavesBytes state.old list.now (update seed.old) result
         state.new seed.new }
 {
-    let o = metered::keyed_update_seed(*state, list, seed);
-    *state = o.next;
-    answer_of(&o)
+    left(&metered::keyed_update_seed(*state, list, seed), state)
 }
 
 #[unsafe(no_mangle)]
@@ -59,7 +53,5 @@ pub extern "C" fn fortuna_keyed_metered_write(
     ensures { KeyedMeteredLeavesBytes state.old list.now (write seed.old) result
         state.new seed.new }
 {
-    let o = metered::keyed_write_seed(*state, list, seed);
-    *state = o.next;
-    answer_of(&o)
+    left(&metered::keyed_write_seed(*state, list, seed), state)
 }

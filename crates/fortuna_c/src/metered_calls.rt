@@ -2,8 +2,8 @@
 ghost use Rattle.pools.specs.Calls.{event, request, update, write, draw, shuffle};
 ghost use Rattle.fortuna_c.specs.Outcomes.{MeteredLeaves, MeteredLeavesBytes, MeteredLeavesValue};
 
-use crate::slot_draws::{FortunaDraw, draw_of};
-use crate::station::{FortunaAnswer, answer_of, put_pool};
+use crate::slot_draws::{FortunaDraw, draw_left};
+use crate::station::{FortunaAnswer, left, put_pool};
 use laws::number_of;
 use pools::Fortuna;
 use quotas::Quota;
@@ -34,9 +34,7 @@ pub extern "C" fn fortuna_metered_request(
     ensures { MeteredLeavesBytes state.old list.old (request clock out.old) result
         state.new list.new out.new }
 {
-    let o = metered::random_data(*state, list, clock, out);
-    *state = o.next;
-    answer_of(&o)
+    left(&metered::random_data(*state, list, clock, out), state)
 }
 
 #[unsafe(no_mangle)]
@@ -49,9 +47,7 @@ pub extern "C" fn fortuna_metered_update(
     ensures { MeteredLeavesBytes state.old list.old (update clock seed.old) result
         state.new list.new seed.new }
 {
-    let o = metered::update_seed(*state, list, clock, seed);
-    *state = o.next;
-    answer_of(&o)
+    left(&metered::update_seed(*state, list, clock, seed), state)
 }
 
 #[unsafe(no_mangle)]
@@ -64,9 +60,7 @@ pub extern "C" fn fortuna_metered_write(
     ensures { MeteredLeavesBytes state.old list.old (write clock seed.old) result
         state.new list.new seed.new }
 {
-    let o = metered::write_seed(*state, list, clock, seed);
-    *state = o.next;
-    answer_of(&o)
+    left(&metered::write_seed(*state, list, clock, seed), state)
 }
 
 #[unsafe(no_mangle)]
@@ -79,9 +73,7 @@ pub extern "C" fn fortuna_metered_random_below(
 ) -> FortunaDraw
     ensures { MeteredLeavesValue state.old list.old (draw clock n tries) result state.new list.new }
 {
-    let d = metered::random_below(*state, list, clock, n, tries);
-    *state = d.next;
-    draw_of(d)
+    draw_left(&metered::random_below(*state, list, clock, n, tries), state)
 }
 
 #[unsafe(no_mangle)]
@@ -94,7 +86,5 @@ pub extern "C" fn fortuna_metered_shuffle(
     ensures { MeteredLeavesBytes state.old list.old (shuffle clock numbers.old) result
         state.new list.new numbers.new }
 {
-    let o = metered::shuffle(*state, list, clock, numbers);
-    *state = o.next;
-    answer_of(&o)
+    left(&metered::shuffle(*state, list, clock, numbers), state)
 }

@@ -8,6 +8,7 @@ use laws::number_of;
 
 // 0 or 44; the event's source; whether an event was found; the place that was asked for; where the event's data start, and the next place.
 // Where no event was found the source is 0, and `from` and `next` are the place asked for.
+// Kept: (a) a number, `found`, and fields that hold where it is set: C has no Result and no Option, and include/fortuna.h has this struct.
 #[repr(C)]
 #[derive(Clone, Copy)]
 pub struct FortunaEntry {

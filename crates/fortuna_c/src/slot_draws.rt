@@ -4,12 +4,13 @@ ghost use Rattle.pools.specs.Promises.{number, value_of};
 ghost use Rattle.pools.specs.Calls.{draw, shuffle, step};
 ghost use Rattle.fortuna_c.specs.Outcomes.{LeavesBytes, LeavesValue};
 
-use crate::station::{FortunaAnswer, answer_of};
+use crate::station::{FortunaAnswer, left};
 use draws::Draw;
 use laws::number_of;
 use pools::Fortuna;
 
 // The refusal's number, or 0, how many pools were emptied, and the value, 0 where there is none.
+// Kept: (a) a number, and a value that holds where it is 0: C has no Result, and include/fortuna.h has this struct.
 #[repr(C)]
 #[derive(Clone, Copy)]
 pub struct FortunaDraw {
@@ -18,9 +19,12 @@ pub struct FortunaDraw {
     pub value: u64,
 }
 
-pub(crate) fn draw_of(d: Draw) -> FortunaDraw
-    ensures { (result.number ≡ number d.answer) × (result.emptied ≡ d.emptied) × (result.value ≡ value_of d.answer) }
+// Stores the state that a draw leaves, and says what C is told of it.
+pub(crate) fn draw_left(d: &Draw, state: &mut Fortuna) -> FortunaDraw
+    ensures { (result.number ≡ number d.now.answer) × (result.emptied ≡ d.now.emptied) × (result.value ≡ value_of d.now.answer)
+        × (state.new ≡ d.now.next) }
 {
+    *state = d.next;
     FortunaDraw {
         number: number_of(d.answer),
         emptied: d.emptied,
@@ -37,9 +41,7 @@ pub extern "C" fn fortuna_random_below(
 ) -> FortunaDraw
     ensures { LeavesValue (step state.old (draw clock n tries)) result state.new }
 {
-    let d = draws::random_below(*state, clock, n, tries);
-    *state = d.next;
-    draw_of(d)
+    draw_left(&draws::random_below(*state, clock, n, tries), state)
 }
 
 #[unsafe(no_mangle)]
@@ -50,7 +52,5 @@ pub extern "C" fn fortuna_shuffle(
 ) -> FortunaAnswer
     ensures { LeavesBytes (step state.old (shuffle clock list.old)) result state.new list.new }
 {
-    let o = draws::shuffle(*state, clock, list);
-    *state = o.next;
-    answer_of(&o)
+    left(&draws::shuffle(*state, clock, list), state)
 }

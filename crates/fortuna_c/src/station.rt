@@ -11,6 +11,7 @@ use laws::number_of;
 use pools::{Fortuna, Outcome};
 
 // The refusal's number, or 0, and how many pools were emptied.
+// Kept: (a) a number in place of a Result: C has none, and include/fortuna.h has this struct.
 #[repr(C)]
 #[derive(Clone, Copy)]
 pub struct FortunaAnswer {
@@ -25,10 +26,11 @@ pub(crate) fn put_pool(state: &mut Fortuna, place: usize, pool: Hasher)
     state.pools[place] = pool;
 }
 
-// What C is told of a call, on a state of either scheduler.
-pub(crate) fn answer_of<S>(o: &Outcome<S>) -> FortunaAnswer
-    ensures { (result.number ≡ number o.now.answer) × (result.emptied ≡ o.now.emptied) }
+// Stores the state that a call leaves, of either scheduler, and says what C is told of the call.
+pub(crate) fn left<S: Copy>(o: &Outcome<S>, state: &mut S) -> FortunaAnswer
+    ensures { (result.number ≡ number o.now.answer) × (result.emptied ≡ o.now.emptied) × (state.new ≡ o.now.next) }
 {
+    *state = o.next;
     FortunaAnswer {
         number: number_of(o.answer),
         emptied: o.emptied,
@@ -55,25 +57,19 @@ pub extern "C" fn fortuna_event(state: &mut Fortuna, source: u32, pool: u32, dat
 pub extern "C" fn fortuna_request(state: &mut Fortuna, clock: u32, out: &mut [u8]) -> FortunaAnswer
     ensures { LeavesBytes (step state.old (request clock out.old)) result state.new out.new }
 {
-    let o = state.random_data(clock, out);
-    *state = o.next;
-    answer_of(&o)
+    left(&state.random_data(clock, out), state)
 }
 
 #[unsafe(no_mangle)]
 pub extern "C" fn fortuna_update(state: &mut Fortuna, clock: u32, seed: &mut [u8]) -> FortunaAnswer
     ensures { LeavesBytes (step state.old (update clock seed.old)) result state.new seed.new }
 {
-    let o = state.update_seed(clock, seed);
-    *state = o.next;
-    answer_of(&o)
+    left(&state.update_seed(clock, seed), state)
 }
 
 #[unsafe(no_mangle)]
 pub extern "C" fn fortuna_write(state: &mut Fortuna, clock: u32, seed: &mut [u8]) -> FortunaAnswer
     ensures { LeavesBytes (step state.old (write clock seed.old)) result state.new seed.new }
 {
-    let o = state.write_seed(clock, seed);
-    *state = o.next;
-    answer_of(&o)
+    left(&state.write_seed(clock, seed), state)
 }

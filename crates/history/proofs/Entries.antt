@@ -16,8 +16,8 @@ use Rattle.pools.specs.Events.{max_source, max_data, header, header_length, even
 use Rattle.history.specs.Strings.{Event, bytes_of, Allowed}
 use Rattle.history.specs.Reader.{entry, the_end, no_event, source_at, length_at, whole_at, size_at, data_at, entry_at, found_event}
 use Rattle.history.specs.Statements.{Bytes, RefusalLaw, Stands, EntryLaw, EntryLaws}
-use Rattle.history.specs.declared.answer.Entry.{Entry}
-use Rattle.history.specs.declared.answer.NoEvent.{NoEvent}
+use Rattle.history.specs.declared.found.Entry.{Entry}
+use Rattle.history.specs.declared.found.NoEvent.{NoEvent}
 use Rattle.history.proofs.Strings.{length-bytes, same-event}
 
 -- ---- an event that stands in a string

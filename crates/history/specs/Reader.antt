@@ -6,8 +6,8 @@ use Rattle.std.proofs.Common.{lit<}
 use Rattle.laws.specs.Refusals.{number_of}
 use Rattle.pools.specs.Events.{max_data, header_length, gain}
 use Rattle.history.specs.Strings.{Event}
-use Rattle.history.specs.declared.answer.Entry.{Entry}
-use Rattle.history.specs.declared.answer.NoEvent.{NoEvent}
+use Rattle.history.specs.declared.found.Entry.{Entry}
+use Rattle.history.specs.declared.found.NoEvent.{NoEvent}
 
 -- ---- what stands at a place
 

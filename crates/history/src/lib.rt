@@ -2,12 +2,12 @@
 // place.
 #![tactic(auto)]
 
-mod answer;
+mod found;
 
 ghost use Rattle.std.specs.Prelude.{◌≡◌, ◌+◌, ◌≤◌, cond, length, IfSome};
 ghost use Rattle.history.specs.Reader.{source_at, length_at, whole_at, data_at, entry_at};
 
-pub use answer::{Entry, NoEvent};
+pub use found::{Entry, NoEvent};
 
 // The source in two bytes, least significant first.
 #[tactic(auto, unfolding(crate::specs::Reader::source_at))]
@@ -52,6 +52,7 @@ pub fn entry_at(string: &[u8], place: usize) -> Result<Option<Entry>, NoEvent>
 }
 
 // The data of the event at a place, a part of the string; nothing where no whole event starts there.
+// Kept: (a) no bytes for no event, and no Option: the clause, by `data_at`, and README say so.
 #[tactic(auto, using(crate::proofs::Sizes::data_is))]
 pub fn data_at(string: &[u8], place: usize) -> &[u8]
     ensures { result.now ≡ data_at string.now place }
@@ -59,7 +60,6 @@ pub fn data_at(string: &[u8], place: usize) -> &[u8]
     let Some(size) = size_at(string, place) else {
         return &string[..0];
     };
-    // Kept: (a) `from` and `next` by name: the edits data_one_early, data_of_one_byte and data_with_header each change one of these lines.
     let from = place + 3;
     let next = from + size;
     &string[from..next]

@@ -22,6 +22,8 @@ use scheduler::{empties, output_pool};
 // The state. scheduler_key is the key given to the fresh start, step is 02's t: the step of the next event. key_requests is 02's number of
 // requests on one key: those accepted since the last emptying or the fresh start, seed calls included, stopping at 65,535. 01's mark, reseed
 // number and flag (last_reseed, reseed_count, reseeded) stay at 0: no clock applies.
+// Kept: (a) the fields and methods of Fortuna again: C has both structs, and the clauses of each crate name its own state and calls.
+// Kept: (a) `reseeded` beside the mark and the number, and no Option: C has this struct.
 #[repr(C)]
 #[derive(Clone, Copy)]
 pub struct Keyed {
@@ -73,7 +75,7 @@ impl Keyed {
         any_malformed(&self.pools) || self.has_malformed_fields()
     }
 
-    // No pool reseed is ever due.
+    // How the state stands: no pool reseed is ever due.
     #[tactic(auto, unfolding(crate::specs::State::standing))]
     fn standing(&self) -> Standing
         ensures { result ≡ standing self.now }

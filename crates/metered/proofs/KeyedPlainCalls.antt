@@ -1,18 +1,17 @@
 -- A call of the keyed scheduler that is no event, behind the gate of its list.
 -- Assumes nothing.
-use mathlib.Core.Path.{◌≡◌, refl, ap, subst}
+use mathlib.Core.Path.{◌≡◌, refl, sym, subst}
 use mathlib.Core.Bool.{true}
 use mathlib.Core.List.{List}
 use Prim.Native.Nat.{ℕ}
 use lib.Dec.{eqb}
-use Rattle.std.proofs.Common.{Err}
-use Rattle.laws.proofs.Cases.{split}
+use borrow.Author.Tests.{eqb-true, eqb-false}
+use Rattle.laws.proofs.Cases.{split, by-test}
 use Rattle.pools.specs.Effects.{Effect, unchanged}
 use Rattle.pools.specs.Calls as Calls
 use Rattle.pools.specs.Calls.{outcome, effect_of}
 use Rattle.pools.specs.declared.Outcome as Method
-use Rattle.pools.specs.declared.refusal.Refusal.{Refusal}
-use Rattle.pools.specs.Promises.{code, number, GivesBytes}
+use Rattle.pools.specs.Promises.{GivesBytes}
 use Rattle.quotas.specs.declared.Quota.{Quota}
 use Rattle.quotas.specs.Records.{quotas_number}
 use Rattle.quotas.specs.Entries.{within}
@@ -22,8 +21,8 @@ use Rattle.keyed.specs.Calls.{Call, request, update, write, input_buffer, input_
 use Rattle.keyed.specs.Entries.{taking, list_number, entry_number, entry_step, charged_for, quotas_left, left_by}
 use Rattle.keyed.proofs.Chains.{call-chains}
 use Rattle.metered.specs.Metering.{gate_number}
-use Rattle.metered.specs.KeyedMetering.{KeyedMetersBytes}
-use Rattle.metered.proofs.Gating.{some-code, passed-is, refused-is}
+use Rattle.metered.specs.KeyedMetering.{KeyedMetersBytes, BehindGate}
+use Rattle.metered.proofs.Gating.{passed-is, refused-is}
 
 -- ---- calls that are no events: the list gives them 37 alone, they charge nothing, and they empty no pool
 
@@ -73,14 +72,18 @@ module _ (s : Keyed) (rs : List Quota) (c : Call) (p : Plain c) where
   refused k some h =
       rw (p.number rs) (refused-is rs (input_number c) (state_number s c) true 0 (input_buffer c) s (call_effect s c) k some h)
 
-  pub meters-passed :
-      (r : Method.Outcome Keyed) (out : List ℕ) → GivesBytes (step s c) r out → 0 ≡ gate_number (quotas_number rs) (input_number c) →
-      KeyedMetersBytes s rs c r out
-  meters-passed r out g h = (subst (λ (o : Calls.Outcome Keyed). GivesBytes o r out) (passed h) g, left-plain)
-
-  pub meters-refused :
-      (r : Method.Outcome Keyed) (refusal : Refusal) →
-      (r.answer ≡ Err refusal) × (r.emptied ≡ 0) × (r.next ≡ s) → code refusal ≡ gate_number (quotas_number rs) (input_number c) →
-      KeyedMetersBytes s rs c r (input_buffer c)
+  -- what behind_gate tells, i the input number, is what the call with its list promises
+  pub meters-bytes :
+      (r : Method.Outcome Keyed) (out : List ℕ) (i : ℕ) → i ≡ input_number c →
+      BehindGate (quotas_number rs) i s (input_buffer c) (GivesBytes (step s c)) r out → KeyedMetersBytes s rs c r out
   unfolding unchanged
-  meters-refused r refusal g h = (rw (refused (code refusal) (some-code refusal) h) ((ap number g.0, g.1, g.2), refl), left-plain)
+  meters-bytes r out i is h =
+      let k : ℕ = gate_number (quotas_number rs) (input_number c) in
+      let told = subst (λ (n : ℕ). BehindGate (quotas_number rs) n s (input_buffer c) (GivesBytes (step s c)) r out) is h in (
+        by-test (eqb 0 k) _
+            (λ t. subst (λ (o : Calls.Outcome Keyed). GivesBytes o r out) (passed (eqb-true 0 k t)) (told.0 (eqb-true 0 k t)))
+            (λ t.
+            let g = told.1 (eqb-false 0 k t) in
+            rw (refused k (λ z. eqb-false 0 k t (sym z)) refl) ((g.0, g.1, g.2), g.3)),
+        left-plain,
+      )

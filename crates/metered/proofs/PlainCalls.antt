@@ -1,6 +1,7 @@
 -- A call of the station that is no event, behind the gate of its list, with the list cleared after it: what the call with its list promises.
 -- Assumes nothing.
 use mathlib.Core.Path.{◌≡◌, refl, sym, ap, subst, ◌∙◌}
+use mathlib.Core.Logic.{◌⊎◌, inl, inr}
 use mathlib.Core.List.{List}
 use Prim.Native.Nat.{ℕ}
 use lib.Dec.{eqb, ltb}
@@ -78,23 +79,27 @@ module _ (s : Fortuna) (rs : List Quota) (c : Call) (p : Plain c) where
   pub left_is : (emptied : ℕ) (zs : List Quota) → emptied ≡ E.effect.emptied → zs ≡ cleared_after emptied rs → zs ≡ left_by s rs c
   left_is emptied zs k l = l ∙ ap (λ (m : ℕ). cleared_after m rs) k ∙ sym left-plain
 
-  -- what the call that passed gives is what the call with its list gives, and a refusal likewise
-  pub bytes-passed :
-      (r : Method.Outcome Fortuna) (out : List ℕ) → GivesBytes (step s c) r out → 0 ≡ gate_number (quotas_number rs) (input_number c) →
-      GivesBytes E r out
-  bytes-passed r out g h = subst (λ (o : Outcome Fortuna). GivesBytes o r out) (passed h) g
+  -- what a call behind the gate gives, i its input number: it passed, or it is refused
+  abbrev pub Passed : ℕ → Method.Outcome Fortuna → List ℕ → Type 0
+  Passed i r out = GivesBytes (step s c) r out × (0 ≡ gate_number (quotas_number rs) i)
 
-  pub bytes-refused :
-      (r : Method.Outcome Fortuna) (refusal : Refusal) →
-      (r.answer ≡ Err refusal) × (r.emptied ≡ 0) × (r.next ≡ s) → code refusal ≡ gate_number (quotas_number rs) (input_number c) →
-      GivesBytes E r (input_buffer c)
+  abbrev pub Refused : ℕ → Method.Outcome Fortuna → List ℕ → Type 0
+  Refused i r out =
+      (refusal : Refusal) × (code refusal ≡ gate_number (quotas_number rs) i)
+      × ((r.answer ≡ Err refusal) × (r.emptied ≡ 0) × (r.next ≡ s)) × (out ≡ input_buffer c)
+
+  gives-bytes : (r : Method.Outcome Fortuna) (out : List ℕ) → Passed (input_number c) r out ⊎ Refused (input_number c) r out → GivesBytes E r out
   unfolding unchanged
-  bytes-refused r refusal g h = rw (refused (code refusal) (some-code refusal) h) ((ap number g.0, g.1, g.2), refl)
+  gives-bytes r out (inl (g, h)) = subst (λ (o : Outcome Fortuna). GivesBytes o r out) (passed h) g
+  gives-bytes r out (inr (refusal, h, g, same)) = rw (refused (code refusal) (some-code refusal) h) ((ap number g.0, g.1, g.2), same)
 
+  -- with its list cleared it is what the call with its list promises
   pub meters-bytes :
-      (r : Method.Outcome Fortuna) (zs : List Quota) (out : List ℕ) → GivesBytes E r out → zs ≡ cleared_after r.emptied rs →
-      MetersBytes s rs c r zs out
-  meters-bytes r zs out gives l = (gives, left_is r.emptied zs gives.0.1 l)
+      (r : Method.Outcome Fortuna) (zs : List Quota) (out : List ℕ) (i : ℕ) → i ≡ input_number c → Passed i r out ⊎ Refused i r out →
+      zs ≡ cleared_after r.emptied rs → MetersBytes s rs c r zs out
+  meters-bytes r zs out i is h l =
+      let gives = gives-bytes r out (subst (λ (n : ℕ). Passed n r out ⊎ Refused n r out) is h) in
+      (gives, left_is r.emptied zs gives.0.1 l)
 
   -- a draw that passed, and one that is refused
   pub value-passed :

@@ -16,10 +16,9 @@ pub fn gain_of(state: Fortuna, list: &mut [Quota], source: u32, pool: u32, data:
         return gain;
     }
     // Where the list refuses it, the pool is the one that it found.
-    let held = state.pools[gain.place];
     Gain {
         answer,
-        pool: held,
+        pool: state.pools[gain.place],
         ..gain
     }
 }

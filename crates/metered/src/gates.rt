@@ -34,7 +34,13 @@ pub(crate) fn refused<S>(state: S, refusal: Refusal) -> Outcome<S>
 }
 
 // The least number of a refusal by the state: the input's numbers of an event are below it.
+// Kept: (d) by number, as the rule is: a pattern in its place would list the five refusals below 21.
 const FIRST_BY_STATE: u32 = 21;
+
+// The most data of an event, and the bytes before them in a pool.
+const MAX_DATA: usize = 32;
+
+const HEADER: usize = 3;
 
 // An event's answer without 38 and 39: its own where its input refuses it, else what refuses the list, else its own.
 fn known_answer(own: Result<(), Refusal>, checked: Result<(), Refusal>) -> Result<(), Refusal>
@@ -51,7 +57,7 @@ fn known_answer(own: Result<(), Refusal>, checked: Result<(), Refusal>) -> Resul
 fn cost_of(n: usize) -> u32
     ensures { result ≡ cost_of n }
 {
-    if n > 32 { 0 } else { (3 + n) as u32 }
+    if n > MAX_DATA { 0 } else { (HEADER + n) as u32 }
 }
 
 // The answer to an event of n bytes of data, which has its own without a list. The list is charged where it is accepted.
@@ -65,6 +71,7 @@ pub(crate) fn charge(
     ensures list { list.new ≡ charge_list list.old source (cost_of n) (known_of (number own) (quotas_number list.old)) }
 {
     let known = known_answer(own, quotas::check(list));
+    // Kept: (a) 38 and 39 by number: `quotas::charge` gives them, whose clause, by `charge_number`, holds for any number of an event.
     match quotas::charge(list, source, cost_of(n), number_of(known)) {
         38 => Err(Refusal::SourceNotListed),
         39 => Err(Refusal::OverAllowance),

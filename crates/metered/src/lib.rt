@@ -1,5 +1,5 @@
-// Calls that take a list of quotas (02 (x)), of the present scheduler and of the keyed one, on a state by value. The list is looked at
-// first, and settled afterwards.
+// Calls that take a list of quotas (02 (x)), of the present scheduler and of the keyed one, on a state by value. A call that is no event asks
+// the list before the state; an event has its own answer first, and is charged where the list accepts it too.
 #![tactic(auto)]
 
 mod calls;

@@ -17,12 +17,12 @@ fn main(rt: HostRuntime) -> io::Result<()> {
     let mut state = Fortuna::new().update_seed(CLOCK, &mut seed).next;
     let mut list = [0u16, 1, 2, 3, 4, 5, 6, 7, 8, 9, 10, 11];
     state = shuffle(state, CLOCK, &mut list).next;
-    let mut bytes = [0u8; 2 * STATIONS];
-    for i in 0..STATIONS {
+    let mut slots = [0u8; STATIONS];
+    for slot in &mut slots {
         let drawn = random_below(state, CLOCK, SLOTS, 64);
         state = drawn.next;
-        bytes[i] = (list[i] % 256) as u8;
-        bytes[STATIONS + i] = (drawn.answer.unwrap_or(0) % 256) as u8;
+        *slot = (drawn.answer.unwrap_or(0) % 256) as u8;
     }
-    rt.write_all(&bytes)
+    rt.write_all(&list.map(|number| (number % 256) as u8))?;
+    rt.write_all(&slots)
 }

@@ -1,9 +1,10 @@
 // The generator, on the state that earlier lines left. All calls are lent one buffer or its front, as earlier lines left it.
+use crate::buffers::ROOM;
+use crate::cases::Case;
 use crate::lines;
-use crate::parts::{ROOM, after, front};
 use crate::text::number;
 use generator::{Generator, Outcome};
-use laws::{number_of, overwrite};
+use laws::{after, front, number_of, overwrite};
 use std::io;
 
 // A state that no call here has led to: key and counter.
@@ -36,8 +37,7 @@ fn buffer(rt: &impl Print, out: &[u8]) -> io::Result<()> {
 }
 
 // Reseeds by what the buffer holds, each before a request that fills it, as often as said.
-fn turns(state: Generator, times: u64, out: &mut [u8]) -> Generator {
-    let mut g = state;
+fn turns(mut g: Generator, times: u64, out: &mut [u8]) -> Generator {
     for _ in 0..times {
         g = g.reseed(out).next;
         g = g.pseudo_random_data(out).next;
@@ -46,36 +46,24 @@ fn turns(state: Generator, times: u64, out: &mut [u8]) -> Generator {
 }
 
 // Blocks (b), turns (t), as often as the bytes after the buffer's length say, or a request (r).
-fn filled(
-    rt: &impl Print,
-    call: u8,
-    data: &[u8],
-    g: Generator,
-    out: &mut [u8],
-) -> io::Result<Generator> {
-    match call {
+fn filled(rt: &impl Print, case: Case, g: Generator, out: &mut [u8]) -> io::Result<Generator> {
+    match case.call {
         b'b' => shown(rt, g.generate_blocks(out)),
-        b't' => Ok(turns(g, number(front(after(data, 3), 2)), out)),
+        b't' => Ok(turns(g, number(front(after(case.data, 3), 2)), out)),
         _ => shown(rt, g.pseudo_random_data(out)),
     }
 }
 
 // A call on the buffer: the first three bytes are its length, and those after the numbers what its front holds.
-fn lent(
-    rt: &impl Print,
-    call: u8,
-    data: &[u8],
-    g: Generator,
-    out: &mut [u8; ROOM],
-) -> io::Result<Generator> {
-    let numbers = if call == b't' { 5 } else { 3 };
-    overwrite(out, after(data, numbers));
-    let n = number(front(data, 3)) as usize;
+fn lent(rt: &impl Print, case: Case, g: Generator, out: &mut [u8; ROOM]) -> io::Result<Generator> {
+    let numbers = if case.call == b't' { 5 } else { 3 };
+    overwrite(out, after(case.data, numbers));
+    let n = number(front(case.data, 3)) as usize;
     let next = match out.get_mut(..n) {
-        Some(part) => filled(rt, call, data, g, part)?,
+        Some(part) => filled(rt, case, g, part)?,
         None => g,
     };
-    if call != b't' {
+    if case.call != b't' {
         buffer(rt, front(out, n))?;
     }
     Ok(next)
@@ -84,15 +72,14 @@ fn lent(
 // A new state (n), a given one (k), a reseed (s), or a call on the buffer.
 pub(crate) fn called(
     rt: &impl Print,
-    call: u8,
-    data: &[u8],
+    case: Case,
     g: Generator,
     out: &mut [u8; ROOM],
 ) -> io::Result<Generator> {
-    match call {
+    match case.call {
         b'n' => Ok(Generator::new()),
-        b'k' => Ok(given(data)),
-        b's' => shown(rt, g.reseed(data)),
-        _ => lent(rt, call, data, g, out),
+        b'k' => Ok(given(case.data)),
+        b's' => shown(rt, g.reseed(case.data)),
+        _ => lent(rt, case, g, out),
     }
 }

@@ -1,9 +1,9 @@
 // SHA-256 and D: of the line's bytes, and of a running hash that earlier lines left.
+use crate::cases::Case;
 use crate::lines;
-use crate::parts::{after, front};
 use crate::text::number;
 use hash::{Hasher, TooLong};
-use laws::number_of;
+use laws::{after, front, number_of};
 use std::io;
 
 // A state that no message is known for: another hash value, and a tail with no zeros after its bytes.
@@ -25,8 +25,7 @@ fn given(length: u64) -> Hasher {
 }
 
 // The part is absorbed as often as said.
-fn absorbed(state: Hasher, times: u64, part: &[u8]) -> Hasher {
-    let mut h = state;
+fn absorbed(mut h: Hasher, times: u64, part: &[u8]) -> Hasher {
     for _ in 0..times {
         h = h.absorb(part).next;
     }
@@ -35,33 +34,33 @@ fn absorbed(state: Hasher, times: u64, part: &[u8]) -> Hasher {
 
 // Sets the running hash: g gives it by its length; n, e and a absorb bytes as often as the first two say, from a new one, from an
 // empty pool, and from what it is.
-pub(crate) fn set(call: u8, data: &[u8], state: Hasher) -> Hasher {
-    let start = match call {
-        b'g' => return given(number(front(data, 8))),
+pub(crate) fn set(case: Case, state: Hasher) -> Hasher {
+    let start = match case.call {
+        b'g' => return given(number(front(case.data, 8))),
         b'n' => Hasher::new(),
         b'e' => Hasher::empty_pool(),
         _ => state,
     };
-    absorbed(start, number(front(data, 2)), after(data, 2))
+    absorbed(start, number(front(case.data, 2)), after(case.data, 2))
 }
 
 // The digest of the line's bytes, s by SHA-256, d by D, j by D with the first 32 as a part of their own; or of the running hash, f
 // by SHA-256 and any other by D.
-fn hashed(call: u8, data: &[u8], state: Hasher) -> Result<[u8; 32], TooLong> {
-    match call {
-        b's' => hash::sha256(data),
-        b'd' => hash::sha_d256(data),
-        b'j' => hash::sha_d256_joined(front(data, 32), after(data, 32)),
+fn hashed(case: Case, state: Hasher) -> Result<[u8; 32], TooLong> {
+    match case.call {
+        b's' => hash::sha256(case.data),
+        b'd' => hash::sha_d256(case.data),
+        b'j' => hash::sha_d256_joined(front(case.data, 32), after(case.data, 32)),
         b'f' | b'F' => state.finish(),
         _ => state.pool_digest(),
     }
 }
 
 // Prints a digest; for a capital the answer's number, with A that of absorbing the line's bytes.
-pub(crate) fn answer(rt: &impl Print, call: u8, data: &[u8], state: Hasher) -> io::Result<()> {
-    match call {
-        b'A' => lines::number(rt, b"", number_of(state.absorb(data).answer)),
-        b'F' | b'P' => lines::number(rt, b"", number_of(hashed(call, data, state))),
-        _ => lines::bytes(rt, b"", &hashed(call, data, state).unwrap_or([0; 32])),
+pub(crate) fn answer(rt: &impl Print, case: Case, state: Hasher) -> io::Result<()> {
+    match case.call {
+        b'A' => lines::number(rt, b"", number_of(state.absorb(case.data).answer)),
+        b'F' | b'P' => lines::number(rt, b"", number_of(hashed(case, state))),
+        _ => lines::bytes(rt, b"", &hashed(case, state).unwrap_or([0; 32])),
     }
 }

@@ -16,7 +16,7 @@ pub(crate) fn bytes(rt: &impl Print, text: &[u8], bytes: &[u8]) -> io::Result<()
     Ok(())
 }
 
-// The title of an answer, and its end; nothing where there is no title.
+// The title of an answer, and a colon; nothing where there is no title.
 pub(crate) fn title(rt: &impl Print, title: &[u8]) -> io::Result<()> {
     if !title.is_empty() {
         rt.write_all(title)?;
@@ -25,6 +25,7 @@ pub(crate) fn title(rt: &impl Print, title: &[u8]) -> io::Result<()> {
     Ok(())
 }
 
+// The end of an answer's line; nothing where there is no title.
 pub(crate) fn end(rt: &impl Print, title: &[u8]) -> io::Result<()> {
     if !title.is_empty() {
         rt.write_all(b"\n")?;
@@ -32,6 +33,7 @@ pub(crate) fn end(rt: &impl Print, title: &[u8]) -> io::Result<()> {
     Ok(())
 }
 
+// What stands in place of an answer.
 pub(crate) fn not_understood(rt: &impl Print, line: &[u8]) -> io::Result<()> {
     rt.write_all(b"not understood: ")?;
     rt.write_all(line)?;

@@ -6,16 +6,19 @@
 // the answers without this program.
 #![tactic(auto)]
 
+mod buffers;
+mod cases;
 mod ciphers;
 mod generators;
 mod hashes;
 mod lines;
-mod parts;
 mod text;
 
+use buffers::{ROOM, read_full, space};
+use cases::Case;
 use generator::Generator;
 use hash::Hasher;
-use parts::{ROOM, after, front, read_full, space};
+use laws::{after, front};
 use std::io;
 use text::decode;
 
@@ -30,7 +33,7 @@ struct Held {
 }
 
 // The fewest bytes that a line's letters ask for, where they name a call.
-// Kept: calls are the letters of the lines (an enum would say each letter a second time: `b'e' => ..` reads as the line does).
+// Kept: (d) calls are the letters of the lines: an enum would say each a second time, where `b'e' => ..` reads as the line does.
 fn least(letter: u8, call: u8) -> Option<usize> {
     match (letter, call) {
         (b'h', b's' | b'd' | b'f' | b'p' | b'A' | b'F' | b'P') => Some(0),
@@ -58,43 +61,41 @@ fn is_case(letter: u8, call: u8, n: usize, left: &[u8]) -> bool {
 }
 
 // The call of a case.
-fn called(
-    rt: &impl Print,
-    letter: u8,
-    call: u8,
-    data: &[u8],
-    held: Held,
-    out: &mut [u8; ROOM],
-) -> io::Result<Held> {
-    match letter {
+fn called(rt: &impl Print, case: Case, held: Held, out: &mut [u8; ROOM]) -> io::Result<Held> {
+    match case.letter {
         b'h' => {
-            hashes::answer(rt, call, data, held.hasher)?;
+            hashes::answer(rt, case, held.hasher)?;
             Ok(held)
         }
         b'c' | b'w' => {
-            ciphers::answer(rt, letter, call, data)?;
+            ciphers::answer(rt, case)?;
             Ok(held)
         }
         b'H' => Ok(Held {
-            hasher: hashes::set(call, data, held.hasher),
+            hasher: hashes::set(case, held.hasher),
             ..held
         }),
         _ => Ok(Held {
-            generator: generators::called(rt, call, data, held.generator, out)?,
+            generator: generators::called(rt, case, held.generator, out)?,
             ..held
         }),
     }
 }
 
-// A line.
-fn case(rt: &impl Print, line: &[u8], held: Held, out: &mut [u8; ROOM]) -> io::Result<Held> {
+// What a line leaves, when it is done.
+fn done(rt: &impl Print, line: &[u8], held: Held, out: &mut [u8; ROOM]) -> io::Result<Held> {
     if let [letter, call, b' ', fields @ ..] = line {
         let mut bytes = [0u8; MOST];
         let n = decode(fields, &mut bytes);
         let left = after(after(fields, n), n);
         if is_case(*letter, *call, n, left) {
             lines::title(rt, after(left, 1))?;
-            let next = called(rt, *letter, *call, front(&bytes, n), held, out)?;
+            let case = Case {
+                letter: *letter,
+                call: *call,
+                data: front(&bytes, n),
+            };
+            let next = called(rt, case, held, out)?;
             lines::end(rt, left)?;
             return Ok(next);
         }
@@ -113,7 +114,7 @@ fn run(rt: &impl Print, input: &[u8], out: &mut [u8; ROOM]) -> io::Result<()> {
         generator: Generator::new(),
     };
     for line in input.split_inclusive(|b| *b == b'\n') {
-        held = case(rt, line.strip_suffix(b"\n").unwrap_or(line), held, out)?;
+        held = done(rt, line.strip_suffix(b"\n").unwrap_or(line), held, out)?;
     }
     Ok(())
 }

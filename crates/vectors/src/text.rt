@@ -16,14 +16,14 @@ fn byte(high: u8, low: u8) -> Option<u8> {
 
 // The bytes of a text, up to the first two characters that are not both digits; how many they are.
 pub(crate) fn decode(text: &[u8], out: &mut [u8]) -> usize {
-    let most = out.len().min(text.len() / 2);
-    for i in 0..most {
-        match byte(text[2 * i], text[2 * i + 1]) {
-            Some(b) => out[i] = b,
+    let (pairs, _) = text.as_chunks::<2>();
+    for (i, (b, [high, low])) in out.iter_mut().zip(pairs).enumerate() {
+        match byte(*high, *low) {
+            Some(value) => *b = value,
             None => return i,
         }
     }
-    most
+    out.len().min(pairs.len())
 }
 
 // The number of 8 bytes or fewer, the most significant first.

@@ -1,8 +1,7 @@
-use Rattle.std.proofs.Common.{ap, ◌∙◌}
+use Rattle.std.proofs.Common.{refl}
+use mathlib.Core.Logic.{inl, inr}
 use Rattle.pools.specs.Calls.{shuffle, input_number, input_buffer}
-use Rattle.quotas.specs.Records.{quotas_number}
-use Rattle.metered.specs.Metering.{gate_number}
-use Rattle.metered.proofs.PlainCalls.{shuffle-plain, bytes-passed, bytes-refused, meters-bytes}
+use Rattle.metered.proofs.PlainCalls.{shuffle-plain, meters-bytes}
 use Rattle.metered.proofs.calls.shuffle.Goals as goal
 use Rattle.metered.proofs.calls.shuffle.Goals.{in-Ok, in-Err}
 
@@ -10,16 +9,10 @@ pub returns : goal.returns
 unfolding input_number input_buffer
 returns c =
     let a = c.args in
-    let rs = a.list.now in
-    let call = shuffle a.clock a.numbers.now in
-    let plain = shuffle-plain a.clock a.numbers.now in
-    let by_input = ap (gate_number (quotas_number rs)) c.list_input.ensures in
     let j = c.match-gate in
-    meters-bytes a.state rs call plain j.outcome _ j.numbers
+    meters-bytes a.state a.list.now (shuffle a.clock a.numbers.now) (shuffle-plain a.clock a.numbers.now) j.outcome _ j.numbers _ c.list_input.ensures
     (elim j.branch [
-      | in-Ok w ↦ rw (w.outcome-is, w.numbers-is) (bytes-passed a.state rs call plain _ _ w.shuffle-outcome.ensures (w.in-Ok.ensures ∙ by_input))
-      | in-Err w ↦
-          rw (w.outcome-is, w.numbers-is)
-          (bytes-refused a.state rs call plain _ w.in-Err.refusal w.refused-outcome.ensures (w.in-Err.ensures ∙ by_input))
+      | in-Ok w ↦ rw (w.outcome-is, w.numbers-is) (inl (w.shuffle-outcome.ensures, w.in-Ok.ensures))
+      | in-Err w ↦ rw (w.outcome-is, w.numbers-is) (inr (w.in-Err.refusal, w.in-Err.ensures, w.refused-outcome.ensures, refl))
     ])
     c.clear_after.ensures

@@ -1,4 +1,4 @@
-// Parts of buffers. What asks for more than there is gets what there is, so that callers have nothing to show.
+// The buffers of the program, and what is read into one.
 ghost use Rattle.std.specs.Prelude.{◌≡◌, ◌≤◌, length, IfOk};
 
 use std::io;
@@ -8,21 +8,11 @@ use std::io::Read;
 pub(crate) const ROOM: usize = 1048577;
 
 // A buffer.
-// Kept: a function of its own, since the check counts the array's length down, and so ends without a proof, where the array stands in main.
+// Kept: (c) a function of its own: with the array in main the check counts its length down and ends without a proof.
 pub(crate) fn space() -> [u8; ROOM]
     ensures { 1048577 ≡ length result }
 {
     [0xee; ROOM]
-}
-
-// The first n bytes.
-pub(crate) fn front(s: &[u8], n: usize) -> &[u8] {
-    &s[..n.min(s.len())]
-}
-
-// What follows the first n bytes, none where there are fewer.
-pub(crate) fn after(s: &[u8], n: usize) -> &[u8] {
-    &s[n.min(s.len())..]
 }
 
 // Reads until the buffer is full or the input ends. Returns how many bytes came, which stand at the front.
@@ -30,6 +20,7 @@ pub(crate) fn read_full(input: &mut impl Read, buf: &mut [u8]) -> io::Result<usi
     ensures { IfOk result (λ n. n ≤ length buf.new) }
 {
     let mut done = 0;
+    // Kept: (d) a read takes as many bytes as come: no `for` has that step.
     while done < buf.len() {
         let n = input.read(&mut buf[done..])?;
         if n == 0 {

@@ -1,6 +1,6 @@
 -- The measure is the room that is left.
 use Rattle.std.proofs.Common.{length, ◌-◌, ◌≤◌}
-use Rattle.vectors.proofs.parts.read_full.Given as goal
+use Rattle.vectors.proofs.buffers.read_full.Given as goal
 
 abbrev pub invariant-loop-done : goal.invariant-loop-done
 invariant-loop-done g l = l.done ≤ length l.buf

@@ -2,7 +2,7 @@
 use mathlib.Core.Path.{◌≡◌, sym}
 use Prim.Native.Nat.{ℕ}
 use lib.ListN.{length, replicate, length-replicate}
-use Rattle.vectors.proofs.parts.space.Goals as goal
+use Rattle.vectors.proofs.buffers.space.Goals as goal
 
 long : (n v : ℕ) → n ≡ length (replicate n v)
 long n v = sym (length-replicate n v)
