@@ -25,19 +25,19 @@ output-refused number emptied bytes h = rw (ne_eqb number 0 h)
 
 -- ---- after 00
 
-output-done : (number emptied : ℕ) (bytes : List ℕ) → number ≡ 0
-    → output_line number emptied bytes ≡ decimal 0 ++ (space ∷ []) ++ decimal emptied ++ spaced bytes ++ (line_feed ∷ [])
+output-done : (emptied : ℕ) (bytes : List ℕ)
+    → output_line 0 emptied bytes ≡ decimal 0 ++ (space ∷ []) ++ decimal emptied ++ spaced bytes ++ (line_feed ∷ [])
 unfolding output_line
-output-done number emptied bytes e = rw e
+output-done emptied bytes = refl
 
 -- 00, a space, and the pools emptied
 abbrev pub front : ℕ → List ℕ → List ℕ
 front emptied rest = 48 ∷ 48 ∷ space ∷ (48 + emptied / 10) ∷ (48 + emptied % 10) ∷ rest
 
 -- no bytes
-pub output-none : (number emptied : ℕ) (bytes : List ℕ) → number ≡ 0 → length bytes ≡ 0 → output_line number emptied bytes ≡ front emptied (line_feed ∷ [])
-output-none number emptied [] e z = rw (output-done number emptied [] e) (unfold decimal spaced in refl)
-output-none number emptied (b ∷ bytes) e z = absurd (omega arith)
+pub output-none : (emptied : ℕ) (bytes : List ℕ) → length bytes ≡ 0 → output_line 0 emptied bytes ≡ front emptied (line_feed ∷ [])
+output-none emptied [] z = output-done emptied [] ∙ (unfold decimal spaced in refl)
+output-none emptied (b ∷ bytes) z = absurd (omega arith)
 
 -- a line feed stored behind what is written
 put-more : (p d : List ℕ) (n v : ℕ) → length p ≡ n → n < length d → set (p ++ drop n d) n v ≡ p ++ (v ∷ []) ++ drop (n + 1) d
@@ -82,11 +82,11 @@ module _ (emptied b : ℕ) (bytes out : List ℕ) (room : 7 + 2 * length (b ∷ 
             ∙ sym (overwrite-fits out (six ++ text ++ (line_feed ∷ [])) (omega (arith, l))),
       )
 
-pub output-some : (number emptied : ℕ) (bytes out first part : List ℕ) → number ≡ 0 → (length bytes ≡ 0 → ⊥) → 7 + 2 * length bytes ≤ length out
+-- the text is stored in the part of k characters from the seventh on
+pub output-some : (emptied : ℕ) (bytes out first part : List ℕ) (k : ℕ) → (length bytes ≡ 0 → ⊥) → 7 + 2 * length bytes ≤ length out → k ≡ length first - 6
     → first ≡ overwrite out (front emptied (space ∷ []))
-    → part ≡ encode_hex bytes ++ drop (2 * length bytes) (take (length first - 6) (drop 6 first))
-    → Shown (output_line number emptied bytes) (6 + 2 * length bytes + 1) out
-    (set (take 6 first ++ (part ++ drop (length first - 6) (drop 6 first))) (6 + 2 * length bytes) line_feed)
-output-some number emptied [] out first part e z h = absurd (z refl)
-output-some number emptied (b ∷ bytes) out first part e z h =
-    rw (output-done number emptied (b ∷ bytes) e) (unfold decimal spaced in some-shown emptied b bytes out h first part)
+    → part ≡ encode_hex bytes ++ drop (2 * length bytes) (take k (drop 6 first))
+    → Shown (output_line 0 emptied bytes) (6 + 2 * length bytes + 1) out (set (take 6 first ++ (part ++ drop k (drop 6 first))) (6 + 2 * length bytes) line_feed)
+output-some emptied [] out first part k z h l e f = absurd (z refl)
+output-some emptied (b ∷ bytes) out first part k z h l e f =
+    rw (output-done emptied (b ∷ bytes), l) (unfold decimal spaced in some-shown emptied b bytes out h first part e (rw l at f))

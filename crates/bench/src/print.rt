@@ -1,9 +1,10 @@
 // What a line prints.
-ghost use Rattle.std.specs.Prelude.{◌≡◌, ◌+◌, ◌*◌, ◌≤◌, ◌<◌, length};
+ghost use Rattle.std.specs.Prelude.{◌≡◌, ◌+◌, ◌≤◌, ◌<◌, length};
 ghost use Rattle.laws.specs.Lists.{overwrite};
 ghost use Rattle.bench.specs.Lines.{number_line, output_line};
 
 use crate::hex::encode;
+use crate::line::MAX_OUTPUT;
 use laws::overwrite;
 
 // The digit of a number below 10.
@@ -16,8 +17,8 @@ fn decimal_digit(n: u32) -> u8
 
 // A number below 100 in two decimal digits, and the line feed.
 #[tactic(auto, unfolding(crate::specs::Lines::number_line, crate::specs::Hexadecimal::decimal))]
-pub(crate) fn number_line(number: u32, out: &mut [u8]) -> usize
-    requires { (number < 100) × (3 ≤ length out.old) }
+pub(crate) fn number_line(number: u32, out: &mut [u8; MAX_OUTPUT]) -> usize
+    requires { number < 100 }
     ensures { (result ≡ length (number_line number)) × (out.new ≡ overwrite out.old (number_line number)) }
 {
     let line = [
@@ -29,14 +30,11 @@ pub(crate) fn number_line(number: u32, out: &mut [u8]) -> usize
     line.len()
 }
 
-// The line of a request, an update or a write.
-pub(crate) fn output_line(number: u32, emptied: u32, bytes: &[u8], out: &mut [u8]) -> usize
-    requires { (number < 100) × (emptied < 100) × (7 + 2 * length bytes.now ≤ length out.old) }
-    ensures { (result ≡ length (output_line number emptied bytes.now)) × (out.new ≡ overwrite out.old (output_line number emptied bytes.now)) }
+// The line of a request, an update or a write that was done: 00, the pools emptied, and the bytes.
+pub(crate) fn output_line(emptied: u32, bytes: &[u8], out: &mut [u8; MAX_OUTPUT]) -> usize
+    requires { (emptied < 100) × (length bytes.now ≤ 65535) }
+    ensures { (result ≡ length (output_line 0 emptied bytes.now)) × (out.new ≡ overwrite out.old (output_line 0 emptied bytes.now)) }
 {
-    if number != 0 {
-        return number_line(number, out);
-    }
     let tens = decimal_digit(emptied / 10);
     let ones = decimal_digit(emptied % 10);
     if bytes.is_empty() {

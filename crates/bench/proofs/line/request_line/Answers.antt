@@ -8,7 +8,6 @@ use Rattle.pools.specs.Calls.{request}
 use Rattle.bench.specs.Buffers.{zeros}
 use Rattle.bench.proofs.Buffers.{front-zeros, length-front-zeros, length_back, front-back, length-front-back}
 use Rattle.bench.proofs.Executed.{request-lends, emptied-small, output-prints}
-use Rattle.pools.proofs.Bounds.{answer-small}
 use Rattle.bench.proofs.line.request_line.Goals as goal
 
 -- the buffer that is lent
@@ -30,22 +29,21 @@ slice_bounds-bytes-end-2 c =
     let call = c.random_data-outcome in
     simp length-append (omega (arith, length_back c.from-n.result 65535 blank fits blank-is call.new.out call.auto.out))
 
-pub slice_bounds-output_line-end : goal.slice_bounds-output_line-end
-slice_bounds-output_line-end c =
+pub slice_bounds-output-end : goal.slice_bounds-output-end
+slice_bounds-output-end c =
     let fits : c.from-n.result ≤ 65535 = search rules in
     let call = c.random_data-outcome in
     sym (length-front-back c.from-n.result 65535 blank fits blank-is call.new.out call.auto.out)
 
-pub output_line-requires : goal.output_line-requires
-output_line-requires c =
+pub output-requires : goal.output-requires
+output-requires c =
     let n = c.from-n.result in
     let fits : n ≤ 65535 = search rules in
     let a = c.args in
     let call = c.random_data-outcome in
     let e : take n blank ≡ zeros a.count = front-zeros n 65535 blank fits blank-is ∙ ap zeros c.from-n.ensures in (
-      rw c.number_of.ensures (answer-small call.result.answer),
       emptied-small a.state (request a.clock (zeros a.count)) call.result (rw e at call.ensures.0),
-      omega (arith, c.requires, fits, length-front-back n 65535 blank fits blank-is call.new.out call.auto.out),
+      omega (arith, fits, length-front-back n 65535 blank fits blank-is call.new.out call.auto.out),
     )
 
 pub returns : goal.returns
@@ -57,10 +55,7 @@ returns c =
     let back = call.new.out in
     let e : take n blank ≡ zeros a.count = front-zeros n 65535 blank fits blank-is ∙ ap zeros c.from-n.ensures in
     let f = front-back n 65535 blank fits blank-is back call.auto.out in
-    let l = length_back n 65535 blank fits blank-is back call.auto.out in
-    output-prints a.state (request a.clock (zeros a.count)) call.result back _ _ a.out.now _
+    output-prints a.state (request a.clock (zeros a.count)) call.result back _ a.out.now _
     (request-lends a.clock (zeros a.count))
     (rw e at call.ensures)
-    c.number_of.ensures
-    (omega (arith, c.requires, fits))
-    (rw f at c.output_line.ensures)
+    (rw f at c.output.ensures)
