@@ -3,23 +3,20 @@
 use mathlib.Core.Path.{◌≡◌, refl, sym, ap, ◌∙◌}
 use mathlib.Core.Bool.{Bool, true, false, cond}
 use mathlib.Core.List.{List, [], ◌∷◌, ◌++◌}
-use Rattle.std.specs.Prelude.{Some, None, Result, Ok, Err}
+use Rattle.std.specs.Prelude.{Some, None}
 use Prim.Native.Nat.{ℕ, ◌+◌, ◌*◌, ◌≤◌, ◌<◌}
 use native.Mathlib.Omega.{arith}
 use lib.Dec.{eqb}
 use lib.ListN.{length, length-append}
 use Rattle.laws.specs.Lists.{overwrite}
 use Rattle.pools.specs.Calls.{Call, event, request, update, write, step}
-use Rattle.pools.specs.Promises.{code, code-above-0, number, Gives, GivesBytes}
+use Rattle.pools.specs.Promises.{number, Gives, GivesBytes}
 use Rattle.pools.specs.declared.Fortuna.{Fortuna}
 use Rattle.pools.specs.declared.Outcome.{Outcome}
-use Rattle.pools.specs.declared.refusal.Refusal.{Refusal}
 use Rattle.bench.specs.Hexadecimal.{decimal}
-use Rattle.bench.specs.Lines.{space, line_feed, no_frame, number_line, spaced, output_line, answer_line, outcome_line, LineEffect, executed, Prints}
+use Rattle.bench.specs.Lines.{space, line_feed, no_frame, number_line, spaced, output_line, answer_line, outcome_line, LineEffect, executed, Shown, Prints}
 use Rattle.bench.proofs.Hexadecimal.{length-encode}
 use Rattle.pools.proofs.Bounds.{step-emptied-few, pools-small}
-use Rattle.bench.proofs.Printing.{Shown, output-refused}
-use Rattle.bench.specs.declared.line.LineOutcome.{LineOutcome}
 
 -- a line was shown, and it is the effect's
 prints : (o : LineEffect) (next : Fortuna) (line : List ℕ) (n : ℕ) (before after : List ℕ)
@@ -58,25 +55,6 @@ unfolding executed outcome_line answer_line
 event-prints s source pool content o k n before after (e, f, g) i h =
     prints (executed s (Some (event source pool content))) o.next (number_line k) n before after g (ap number_line (i ∙ e)) (rw length-number h)
 
--- ---- a call that was lent bytes, by its outcome
-
-abbrev pub output : Outcome Fortuna → List ℕ → LineEffect
-output o bytes = record { next = o.next; printed = output_line (number o.answer) o.emptied bytes }
-
-module _ (o : Outcome Fortuna) (bytes : List ℕ) (n : ℕ) (before after : List ℕ) (room : 7 + 2 * length bytes ≤ length before) where
-  pub done-prints : o.answer ≡ Ok tt → Shown (output_line 0 o.emptied bytes) n before after → Prints (output o bytes) (record { next = o.next; written = n }) before after
-  done-prints e =
-      prints (output o bytes) o.next (output_line 0 o.emptied bytes) n before after refl
-      (ap (λ (a : Result Unit Refusal). output_line (number a) o.emptied bytes) (sym e)) (omega (arith, length-output 0 o.emptied bytes))
-
-  pub refused-prints : (refusal : Refusal) → o.answer ≡ Err refusal → Shown (number_line (code refusal)) n before after
-      → Prints (output o bytes) (record { next = o.next; written = n }) before after
-  refused-prints refusal e =
-      prints (output o bytes) o.next (number_line (code refusal)) n before after refl
-      (output-refused (code refusal) o.emptied bytes (λ z. omega (arith, code-above-0 refusal, z))
-      ∙ ap (λ (a : Result Unit Refusal). output_line (number a) o.emptied bytes) (sym e))
-      (rw length-number (omega (arith, room)))
-
 -- the calls that lend a buffer
 abbrev pub Lends : Call → Type 0
 Lends c = (n emptied : ℕ) (buffer : List ℕ) → answer_line c n emptied buffer ≡ output_line n emptied buffer
@@ -98,9 +76,11 @@ module _ (s : Fortuna) (c : Call) (o : Outcome Fortuna) where
   pub emptied-small : Gives (step s c) o → o.emptied < 100
   emptied-small (e, f, g) = rw f (omega (arith, step-emptied-few s c, pools-small))
 
-  pub output-prints : (bytes : List ℕ) (r : LineOutcome) (before after : List ℕ)
-      → Lends c → GivesBytes (step s c) o bytes → Prints (output o bytes) r before after → Prints (executed s (Some c)) r before after
+  pub output-prints : (bytes : List ℕ) (n : ℕ) (before after : List ℕ)
+      → Lends c → GivesBytes (step s c) o bytes → 7 + 2 * length bytes ≤ length before
+      → Shown (output_line (number o.answer) o.emptied bytes) n before after
+      → Prints (executed s (Some c)) (record { next = o.next; written = n }) before after
   unfolding executed outcome_line
-  output-prints bytes r before after l ((e, f, g), b) p =
-      let same : output_line (number o.answer) o.emptied bytes ≡ (executed s (Some c)).printed = sym (l (number o.answer) o.emptied bytes) ∙ rw (e, f, b) in
-      record { next = p.next ∙ g; written = p.written ∙ ap length same; fits = rw (← same) p.fits; shown = p.shown ∙ ap (overwrite before) same }
+  output-prints bytes n before after l ((e, f, g), b) h =
+      prints (executed s (Some c)) o.next (output_line (number o.answer) o.emptied bytes) n before after g
+      (sym (l (number o.answer) o.emptied bytes) ∙ rw (e, f, b)) (omega (arith, length-output (number o.answer) o.emptied bytes))

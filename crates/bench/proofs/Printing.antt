@@ -8,20 +8,32 @@ use native.Mathlib.Omega.{arith}
 use lib.ListN.{length, take, drop, get_or, set, length-append, length-drop, drop_of_length-le}
 use lib.Seq.{drop-cons, set_at, append_snoc, drop-drop}
 use borrow.Author.Tests.{ne_eqb}
+use Rattle.std.specs.Prelude.{Result, Ok, Err}
 use Rattle.laws.specs.Lists.{overwrite}
 use Rattle.laws.proofs.Copy.{overwrite-fits, part_end}
+use Rattle.pools.specs.Promises.{code, code-above-0, number}
+use Rattle.pools.specs.declared.refusal.Refusal.{Refusal}
 use Rattle.bench.specs.Hexadecimal.{encode_hex, decimal}
-use Rattle.bench.specs.Lines.{space, line_feed, number_line, spaced, output_line}
+use Rattle.bench.specs.Lines.{space, line_feed, number_line, spaced, output_line, Shown}
 use Rattle.bench.proofs.Hexadecimal.{length-encode}
 
--- n characters were written, the line, and they stand at the front
-abbrev pub Shown : List ℕ → ℕ → List ℕ → List ℕ → Type 0
-Shown line n before after = (n ≡ length line) × (after ≡ overwrite before line)
-
 -- a refusal is its number alone
-pub output-refused : (number emptied : ℕ) (bytes : List ℕ) → (number ≡ 0 → ⊥) → number_line number ≡ output_line number emptied bytes
+output-refused : (number emptied : ℕ) (bytes : List ℕ) → (number ≡ 0 → ⊥) → number_line number ≡ output_line number emptied bytes
 unfolding output_line
 output-refused number emptied bytes h = rw (ne_eqb number 0 h)
+
+-- the line of an answer, where it refuses and where it does not
+module _ (answer : Result Unit Refusal) (emptied : ℕ) (bytes : List ℕ) (n : ℕ) (before after : List ℕ) where
+  pub refused-shown : (refusal : Refusal) → answer ≡ Err refusal → Shown (number_line (code refusal)) n before after
+      → Shown (output_line (number answer) emptied bytes) n before after
+  refused-shown refusal is (w, s) =
+      let e : number_line (code refusal) ≡ output_line (number answer) emptied bytes =
+      output-refused (code refusal) emptied bytes (λ z. omega (arith, code-above-0 refusal, z))
+      ∙ ap (λ (a : Result Unit Refusal). output_line (number a) emptied bytes) (sym is) in
+      (w ∙ ap length e, s ∙ ap (overwrite before) e)
+
+  pub done-shown : answer ≡ Ok tt → Shown (output_line 0 emptied bytes) n before after → Shown (output_line (number answer) emptied bytes) n before after
+  done-shown is s = rw is s
 
 -- ---- after 00
 

@@ -1,17 +1,16 @@
 // One line: which frame it is, and what it does on a Fortuna state.
-ghost use Rattle.std.specs.Prelude.{◌≡◌, ◌≤◌, ◌<◌, length, Some, None};
+ghost use Rattle.std.specs.Prelude.{◌≡◌, ◌≤◌, length, Some, None};
 ghost use Rattle.pools.specs.Calls.{event, request, update, write};
-ghost use Rattle.pools.specs.Promises.{number};
 ghost use Rattle.pools.specs.Refusals.{seed_size};
 ghost use Rattle.bench.specs.Frames.{max_line, frame_of, frame_of_text, is_readable};
 ghost use Rattle.bench.specs.Buffers.{zeros};
-ghost use Rattle.bench.specs.Lines.{output_line, call_of, executed, line_of, Prints};
+ghost use Rattle.bench.specs.Lines.{call_of, executed, line_of, Prints};
 
 use crate::frame::{Frame, parse};
 use crate::hex::{decode, is_hex};
 use crate::print::{number_line, output_line};
-use laws::{Numbered, number_of};
-use pools::{Fortuna, Outcome};
+use laws::number_of;
+use pools::Fortuna;
 
 // The most characters of a line, its line feed not counted: of one that begins with 05, and of any other.
 pub(crate) const MAX_WIDE_LINE: usize = 258;
@@ -89,28 +88,16 @@ fn event_line(
     }
 }
 
-// A call that was lent bytes: it prints a refusal's number, or the pools emptied and what the bytes are then.
-fn output(outcome: &Outcome<Fortuna>, bytes: &[u8], out: &mut [u8; MAX_OUTPUT]) -> LineOutcome
-    requires { (outcome.now.emptied < 100) × (length bytes.now ≤ 65535) }
-    ensures { Prints (record { next = outcome.now.next; printed = output_line (number outcome.now.answer) outcome.now.emptied bytes.now }) result out.old out.new }
-{
-    let written = match outcome.answer {
-        Ok(()) => output_line(outcome.emptied, bytes, out),
-        Err(refusal) => number_line(refusal.number(), out),
-    };
-    LineOutcome {
-        next: outcome.next,
-        written,
-    }
-}
-
 fn request_line(state: Fortuna, clock: u32, count: u16, out: &mut [u8; MAX_OUTPUT]) -> LineOutcome
     ensures { Prints (executed state (Some (request clock (zeros count)))) result out.old out.new }
 {
     let mut bytes = [0u8; 65535];
     let n = usize::from(count);
     let outcome = state.random_data(clock, &mut bytes[..n]);
-    output(&outcome, &bytes[..n], out)
+    LineOutcome {
+        next: outcome.next,
+        written: output_line(&outcome, &bytes[..n], out),
+    }
 }
 
 fn update_line(
@@ -123,7 +110,10 @@ fn update_line(
     ensures { Prints (executed state (Some (update clock seed.old))) result out.old out.new }
 {
     let outcome = state.update_seed(clock, seed);
-    output(&outcome, seed, out)
+    LineOutcome {
+        next: outcome.next,
+        written: output_line(&outcome, seed, out),
+    }
 }
 
 fn write_line(state: Fortuna, clock: u32, out: &mut [u8; MAX_OUTPUT]) -> LineOutcome
@@ -131,7 +121,10 @@ fn write_line(state: Fortuna, clock: u32, out: &mut [u8; MAX_OUTPUT]) -> LineOut
 {
     let mut seed = [0u8; 64];
     let outcome = state.write_seed(clock, &mut seed);
-    output(&outcome, &seed, out)
+    LineOutcome {
+        next: outcome.next,
+        written: output_line(&outcome, &seed, out),
+    }
 }
 
 // The call of a frame of bytes. An update writes over its seed.

@@ -2,7 +2,7 @@ use mathlib.Core.Path.{◌≡◌, refl, sym, ap, ◌∙◌}
 use Prim.Native.Nat.{ℕ, ◌≤◌}
 use mathlib.Core.List.{List}
 use native.Mathlib.Omega.{arith}
-use lib.ListN.{take, replicate, length-append}
+use lib.ListN.{length, take, replicate, length-append}
 use borrow.Author.Rules.{rules}
 use Rattle.pools.specs.Calls.{request}
 use Rattle.bench.specs.Buffers.{zeros}
@@ -29,14 +29,14 @@ slice_bounds-bytes-end-2 c =
     let call = c.random_data-outcome in
     simp length-append (omega (arith, length_back c.from-n.result 65535 blank fits blank-is call.new.out call.auto.out))
 
-pub slice_bounds-output-end : goal.slice_bounds-output-end
-slice_bounds-output-end c =
+pub slice_bounds-output_line-end : goal.slice_bounds-output_line-end
+slice_bounds-output_line-end c =
     let fits : c.from-n.result ≤ 65535 = search rules in
     let call = c.random_data-outcome in
     sym (length-front-back c.from-n.result 65535 blank fits blank-is call.new.out call.auto.out)
 
-pub output-requires : goal.output-requires
-output-requires c =
+pub output_line-requires : goal.output_line-requires
+output_line-requires c =
     let n = c.from-n.result in
     let fits : n ≤ 65535 = search rules in
     let a = c.args in
@@ -55,7 +55,9 @@ returns c =
     let back = call.new.out in
     let e : take n blank ≡ zeros a.count = front-zeros n 65535 blank fits blank-is ∙ ap zeros c.from-n.ensures in
     let f = front-back n 65535 blank fits blank-is back call.auto.out in
+    let full : length a.out.now ≡ 131077 = search rules in
     output-prints a.state (request a.clock (zeros a.count)) call.result back _ a.out.now _
     (request-lends a.clock (zeros a.count))
     (rw e at call.ensures)
-    (rw f at c.output.ensures)
+    (omega (arith, fits, full, length_back n 65535 blank fits blank-is back call.auto.out))
+    (rw f at c.output_line.ensures)
