@@ -99,42 +99,46 @@ event-parts s p s' p' h = (cc, cc)
 wide-parts : (s p s' p' : ℕ) → ◌≡◌ {A = Option Frame} (Some (WideEvent s p)) (Some (WideEvent s' p')) → (s ≡ s') × (p ≡ p')
 wide-parts s p s' p' h = (cc, cc)
 
+-- bytes that make a frame of kind k: what follows the first makes it
+record KindBytes (k m : ℕ) (made : List ℕ → Frame) (bytes : List ℕ) (frame : Frame) : Type 0 where
+  fields : List ℕ
+  is : bytes ≡ k ∷ fields
+  long : m ≤ length (k ∷ fields)
+  frame-is : ◌≡◌ {A = Option Frame} (Some frame) (Some (made fields))
+
+-- where the kind takes at least m bytes, and no other first byte makes it
+module _ (k m : ℕ) (made : List ℕ → Frame) (some : 0 < k)
+    (by-kind : (fields : List ℕ) → frame_of (k ∷ fields) ≡ cond (leb m (length (k ∷ fields))) (Some (made fields)) None)
+    (other : (kind : ℕ) (fields : List ℕ) → eqb kind k ≡ false → Other k (frame_of (kind ∷ fields))) where
+  kind-bytes : (bytes : List ℕ) (frame : Frame) → event_kind (Some frame) ≡ k → frame_of bytes ≡ Some frame → KindBytes k m made bytes frame
+  kind-bytes [] frame is e =
+      let z : 0 ≡ event_kind (Some frame) = ap event_kind (frame-none [] refl ∙ e) in
+      absurd (omega (arith, some, is, z))
+  kind-bytes (kind ∷ fields) frame is e =
+      by-test (eqb kind k) (KindBytes k m made (kind ∷ fields) frame)
+      (λ t.
+      let first : kind ≡ k = eqb-true kind k t in
+      let f : frame_of (k ∷ fields) ≡ Some frame = ap (λ (x : ℕ). frame_of (x ∷ fields)) (sym first) ∙ e in
+      by-test (leb m (length (k ∷ fields))) (KindBytes k m made (kind ∷ fields) frame)
+      (λ l.
+      record {
+        fields = fields;
+        is = ap (λ (x : ℕ). x ∷ fields) first;
+        long = leb-true m (length (k ∷ fields)) l;
+        frame-is = sym f ∙ by-kind fields ∙ rw l;
+      })
+      (λ l. let z : 0 ≡ event_kind (Some frame) = ap event_kind (rw l at (sym (by-kind fields) ∙ f)) in absurd (omega (arith, some, is, z))))
+      (λ t. absurd (other kind fields t (ap event_kind e ∙ is)))
+
 pub event-bytes : (bytes : List ℕ) (source pool : ℕ) → frame_of bytes ≡ Some (Event source pool) → EventBytes bytes source pool
-event-bytes [] source pool e = let z : ◌≡◌ {A = ℕ} 0 1 = ap event_kind (frame-none [] refl ∙ e) in absurd (omega arith)
-event-bytes (kind ∷ fields) source pool e =
-    by-test (eqb kind 1) (EventBytes (kind ∷ fields) source pool)
-    (λ t.
-    let k : kind ≡ 1 = eqb-true kind 1 t in
-    let f : frame_of (1 ∷ fields) ≡ Some (Event source pool) = ap (λ (x : ℕ). frame_of (x ∷ fields)) (sym k) ∙ e in
-    by-test (leb 3 (length (1 ∷ fields))) (EventBytes (kind ∷ fields) source pool)
-    (λ l.
-    let q = event-parts _ _ _ _ (sym f ∙ frame-one fields ∙ rw l) in
-    record {
-      rest = fields;
-      is = ap (λ (x : ℕ). x ∷ fields) k;
-      long = omega (arith, leb-true 3 (length (1 ∷ fields)) l);
-      source_is = q.0;
-      pool-is = q.1;
-    })
-    (λ l. let z : ◌≡◌ {A = ℕ} 0 1 = ap event_kind (rw l at (sym (frame-one fields) ∙ f)) in absurd (omega arith)))
-    (λ t. absurd (not_narrow kind fields t (ap event_kind e)))
+event-bytes bytes source pool e =
+    let b = kind-bytes 1 3 (λ f. Event (get_or f 0 0) (get_or f 1 0)) (omega arith) frame-one not_narrow bytes (Event source pool) refl e in
+    let q = event-parts _ _ _ _ b.frame-is in
+    record { rest = b.fields; is = b.is; long = omega (arith, b.long); source_is = q.0; pool-is = q.1 }
 
 pub wide-bytes : (bytes : List ℕ) (source pool : ℕ) → frame_of bytes ≡ Some (WideEvent source pool) → WideBytes bytes source pool
-wide-bytes [] source pool e = let z : ◌≡◌ {A = ℕ} 0 5 = ap event_kind (frame-none [] refl ∙ e) in absurd (omega arith)
-wide-bytes (kind ∷ fields) source pool e =
-    by-test (eqb kind 5) (WideBytes (kind ∷ fields) source pool)
-    (λ t.
-    let k : kind ≡ 5 = eqb-true kind 5 t in
-    let f : frame_of (5 ∷ fields) ≡ Some (WideEvent source pool) = ap (λ (x : ℕ). frame_of (x ∷ fields)) (sym k) ∙ e in
-    by-test (leb 4 (length (5 ∷ fields))) (WideBytes (kind ∷ fields) source pool)
-    (λ l.
-    let q = wide-parts _ _ _ _ (sym f ∙ frame-five fields ∙ rw l) in
-    record {
-      rest = fields;
-      is = ap (λ (x : ℕ). x ∷ fields) k;
-      long = omega (arith, leb-true 4 (length (5 ∷ fields)) l);
-      source_is = q.0;
-      pool-is = q.1;
-    })
-    (λ l. let z : ◌≡◌ {A = ℕ} 0 5 = ap event_kind (rw l at (sym (frame-five fields) ∙ f)) in absurd (omega arith)))
-    (λ t. absurd (not_wide kind fields t (ap event_kind e)))
+wide-bytes bytes source pool e =
+    let b =
+    kind-bytes 5 4 (λ f. WideEvent (get_or f 0 0 * 256 + get_or f 1 0) (get_or f 2 0)) (omega arith) frame-five not_wide bytes (WideEvent source pool) refl e in
+    let q = wide-parts _ _ _ _ b.frame-is in
+    record { rest = b.fields; is = b.is; long = omega (arith, b.long); source_is = q.0; pool-is = q.1 }

@@ -14,10 +14,9 @@ use Rattle.pools.specs.Promises.{number, Gives, GivesBytes}
 use Rattle.pools.specs.declared.Fortuna.{Fortuna}
 use Rattle.pools.specs.declared.Outcome.{Outcome}
 use Rattle.bench.specs.Hexadecimal.{decimal}
-use Rattle.bench.specs.Lines.{space, line_feed, no_frame, number_line, spaced, output_line, answer_line, outcome_line, LineEffect, executed, Prints}
+use Rattle.bench.specs.Lines.{space, line_feed, no_frame, number_line, spaced, output_line, answer_line, outcome_line, LineEffect, executed, Shown, Prints}
 use Rattle.bench.proofs.Hexadecimal.{length-encode}
 use Rattle.pools.proofs.Bounds.{step-emptied-few, pools-small}
-use Rattle.bench.proofs.Printing.{Shown}
 
 -- a line was shown, and it is the effect's
 prints : (o : LineEffect) (next : Fortuna) (line : List ℕ) (n : ℕ) (before after : List ℕ)
@@ -77,11 +76,11 @@ module _ (s : Fortuna) (c : Call) (o : Outcome Fortuna) where
   pub emptied-small : Gives (step s c) o → o.emptied < 100
   emptied-small (e, f, g) = rw f (omega (arith, step-emptied-few s c, pools-small))
 
-  pub output-prints : (bytes : List ℕ) (k n : ℕ) (before after : List ℕ)
-      → Lends c → GivesBytes (step s c) o bytes → k ≡ number o.answer → 7 + 2 * length bytes ≤ length before
-      → Shown (output_line k o.emptied bytes) n before after
+  pub output-prints : (bytes : List ℕ) (n : ℕ) (before after : List ℕ)
+      → Lends c → GivesBytes (step s c) o bytes → 7 + 2 * length bytes ≤ length before
+      → Shown (output_line (number o.answer) o.emptied bytes) n before after
       → Prints (executed s (Some c)) (record { next = o.next; written = n }) before after
   unfolding executed outcome_line
-  output-prints bytes k n before after l ((e, f, g), b) i h =
-      prints (executed s (Some c)) o.next (output_line k o.emptied bytes) n before after g (sym (l k o.emptied bytes) ∙ rw (i ∙ e, f, b))
-      (omega (arith, length-output k o.emptied bytes))
+  output-prints bytes n before after l ((e, f, g), b) h =
+      prints (executed s (Some c)) o.next (output_line (number o.answer) o.emptied bytes) n before after g
+      (sym (l (number o.answer) o.emptied bytes) ∙ rw (e, f, b)) (omega (arith, length-output (number o.answer) o.emptied bytes))

@@ -8,8 +8,10 @@ use native.Mathlib.Omega.{arith}
 use native.Mathlib.Numerals.{add-one}
 use lib.Dec.{leb, ltb}
 use lib.ListN.{length, take, drop, get_or, set, length-drop, length-set, take-append-drop}
-use lib.Seq.{drop-cons, append_snoc, take-suc-set, drop-set-lt, drop-drop, drop-length, take_at}
+use lib.Seq.{drop-cons, append_snoc, take-suc-set, drop-set-lt, drop-drop, drop-length, take_at, get_or-take, get_or-drop}
 use borrow.Author.Tests.{leb-true, ltb-true, ltb-false}
+use Rattle.std.specs.List.{fold}
+use Rattle.std.specs.Simd.{first_chunks}
 use Rattle.laws.proofs.Cases.{split, by-test}
 use Rattle.laws.proofs.Tables.{agree_at}
 use Rattle.bench.specs.Hexadecimal.{is_decimal, is_capital, is_digit, digit_value, digit_character, decode_hex, encode_hex, all_digits}
@@ -83,24 +85,14 @@ byte_small (c ∷ []) i = omega arith
 byte_small (c ∷ d ∷ text) zero = omega (arith, digit_small c, digit_small d)
 byte_small (c ∷ d ∷ text) (suc i) = byte_small text i
 
--- ---- the loop over a text's characters: `sofar` says of the first i whether all are digits
+-- ---- the fold over a text's characters: `sofar` says of those before whether all are digits
 
-digits-split : (sofar : Bool) (c : ℕ) (rest : List ℕ) → (sofar && all_digits (c ∷ rest)) ≡ ((sofar && is_digit c) && all_digits rest)
+pub digits-folded : (text : List ℕ) (sofar : Bool) → fold (λ digits c. digits && is_digit c) sofar text ≡ (sofar && all_digits text)
 unfolding all_digits
-digits-split true c rest = refl
-digits-split false c rest = refl
-
-module _ (text : List ℕ) (i : ℕ) (sofar : Bool) (so : all_digits text ≡ (sofar && all_digits (drop i text))) where
-  pub digits_more : i < length text → all_digits text ≡ ((sofar && is_digit (get_or text i 0)) && all_digits (drop (i + 1) text))
-  digits_more h = so ∙ rw (drop-cons text i 0 h, add-one i) (digits-split sofar (get_or text i 0) (drop (suc i) text))
-
-  pub digits-all : i ≡ length text → sofar ≡ all_digits text
-  unfolding all_digits
-  digits-all e = sym (so ∙ rw (e, drop-length) (last sofar))
-    where
-      last : (sofar : Bool) → (sofar && true) ≡ sofar
-      last true = refl
-      last false = refl
+digits-folded [] true = refl
+digits-folded [] false = refl
+digits-folded (c ∷ text) true = digits-folded text (is_digit c)
+digits-folded (c ∷ text) false = digits-folded text false
 
 -- ---- decode after encode
 
@@ -121,6 +113,20 @@ unfolding decode_hex
 length-decode [] = refl
 length-decode (c ∷ []) = refl
 length-decode (c ∷ d ∷ text) = let e : length (decode_hex text) ≡ length text / 2 = length-decode text in omega arith
+
+-- pair i of a text, and its characters
+pair-at : (n i : ℕ) (text : List ℕ) → i < n → get_or (first_chunks 2 n text) i [] ≡ take 2 (drop (2 * i) text)
+pair-at zero i text h = absurd (omega arith)
+pair-at (suc n) zero text h = refl
+pair-at (suc n) (suc i) text h =
+    let e : 2 + 2 * i ≡ 2 * suc i = omega arith in
+    pair-at n i (drop 2 text) (omega arith) ∙ ap (take 2) (drop-drop (2 * i) 2 text ∙ ap (λ (k : ℕ). drop k text) e)
+
+pub pair-digit : (pairs : List (List ℕ)) (n : ℕ) (text : List ℕ) (i j : ℕ) → pairs ≡ first_chunks 2 n text → i < n → j < 2
+    → get_or (get_or pairs i []) j 0 ≡ get_or text (2 * i + j) 0
+pair-digit pairs n text i j e h k =
+    ap (λ (l : List (List ℕ)). get_or (get_or l i []) j 0) e ∙ ap (λ (l : List ℕ). get_or l j 0) (pair-at n i text h)
+    ∙ get_or-take 2 (drop (2 * i) text) j 0 k ∙ get_or-drop (2 * i) text j 0
 
 -- two characters more
 decode-two : (text : List ℕ) (i : ℕ) → 2 * i + 1 < length text

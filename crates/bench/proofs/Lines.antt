@@ -2,16 +2,19 @@
 -- Assumes nothing.
 use mathlib.Core.Path.{◌≡◌, refl, sym, ap, ◌∙◌}
 use mathlib.Core.Bool.{Bool, true, false, cond, ◌||◌, true≢false}
-use mathlib.Core.List.{List, [], ◌∷◌, ◌++◌, append-nil}
-use Prim.Native.Nat.{ℕ, suc, ◌+◌, ◌≤◌, ◌<◌}
+use mathlib.Core.List.{List, [], ◌∷◌, ◌++◌, append_assoc, append-nil}
+use Prim.Native.Nat.{ℕ, suc, ◌+◌, ◌-◌, ◌≤◌, ◌<◌, min}
 use native.Mathlib.Nat.{add-zero, suc-add}
 use native.Mathlib.Omega.{arith}
 use lib.Dec.{eqb, ltb}
 use lib.ListN.{length, take, drop, length-append}
-use lib.Seq.{append_snoc, take_at, take_all}
+use lib.Pointwise.{pointwise}
+use lib.Seq.{append_snoc, take_at, take_all, drop_at, drop-length}
+use denote.Ref.{Bor}
 use borrow.Author.Tests.{eqb-true, ltb-false, lt-ltb, le-ltb}
-use Rattle.std.specs.Prelude.{Option, Some, None, unwrap_or}
-use Rattle.std.specs.List.{position_or_len}
+use Rattle.std.specs.Prelude.{Option, Some, None, unwrap_or, MatchOption, nat_eq}
+use Rattle.std.specs.List.{position_or_len, IsFirstMatchOrLen}
+use Rattle.std.proofs.lemmas.List.Sums.{position_or_len_is}
 use Rattle.std.proofs.lemmas.List.Recursion.{is_position_or_len}
 use Rattle.laws.proofs.Cases.{split, by-test, neither}
 use Rattle.bench.specs.Lines.{line_feed}
@@ -148,6 +151,90 @@ module _ (chunk : List ℕ) where
       by-test (ltb (length (first_line chunk)) (length chunk)) _
       (λ t. rw (e, ← first-place, t))
       (λ t. rw (e, ← first-place, t) (omega (arith, first_fits chunk, ltb-false _ _ t)))
+
+-- ---- the first line of an input, cut off with its line feed
+
+pub lines-none : lines [] ≡ []
+unfolding lines lines_following final_line
+lines-none = refl
+
+-- a line that the end of the input ends
+one_line : (l : List ℕ) → 0 < length l → lines_following l [] ≡ l ∷ []
+unfolding lines_following final_line
+one_line [] h = absurd (omega arith)
+one_line (c ∷ l) h = refl
+
+-- the first line comes first, and then those of what is not used
+pub lines-first : (r : List ℕ) → 0 < length r → lines r ≡ first_line r ∷ lines (drop (used_by r) r)
+unfolding lines
+lines-first r some = ap (lines_following []) (sym (append-nil r)) ∙ lines_after [] r [] ∙ go (has_line_feed r) refl
+  where
+    go : (t : Bool) → has_line_feed r ≡ t
+        → cond t (first_line r ∷ lines_following [] (drop (used_by r) r ++ [])) (lines_following (first_line r) [])
+        ≡ first_line r ∷ lines_following [] (drop (used_by r) r)
+    go true e = rw append-nil refl
+    go false e =
+        let all = first-all r e in
+        rw (used_all r e, drop-length) (one_line (first_line r) (omega (arith, some, ap length all)) ∙ ap (λ (ls : List (List ℕ)). first_line r ∷ ls) (sym lines-none))
+
+-- a text without a line feed does not end with one
+feedless-last : (l : List ℕ) → has_line_feed l ≡ false → pointwise nat_eq (drop (length l - 1) l) (line_feed ∷ []) ≡ false
+unfolding has_line_feed
+feedless-last [] e = refl
+feedless-last (c ∷ []) e = rw (feedless-more c [] e).0
+feedless-last (c ∷ d ∷ l) e =
+    let k : length (c ∷ d ∷ l) - 1 ≡ suc (length (d ∷ l) - 1) = omega arith in
+    rw k (feedless-last (d ∷ l) (feedless-more c (d ∷ l) e).1)
+
+module _ (r x rest : List ℕ) (i : ℕ) (cut : r ≡ x ++ rest) (size : length x ≡ min (i + 1) (length r)) (first : IsFirstMatchOrLen (λ c. eqb c line_feed) r i) where
+  place : length (first_line r) ≡ min i (length r)
+  place =
+      first-place r
+      ∙ position_or_len_is (λ c. eqb c line_feed) r (min i (length r)) 0 (omega arith) (λ k h. first.0 k 0 (omega arith) (omega arith))
+      (λ h. let e : min i (length r) ≡ i = omega arith in rw e (first.1 (omega arith) 0))
+
+  used : length x ≡ used_by r
+  used =
+      by-test (has_line_feed r) (length x ≡ used_by r)
+      (λ t. omega (arith, used-ended r t, longer r t, place, size))
+      (λ t. omega (arith, used_all r t, ap length (first-all r t), place, size))
+
+  -- what is left are the lines behind it
+  pub cut-lines : 0 < length r → lines r ≡ first_line r ∷ lines rest
+  cut-lines some =
+      lines-first r some
+      ∙ ap (λ (l : List ℕ). first_line r ∷ lines l) (ap (λ (n : ℕ). drop n r) (sym used) ∙ ap (drop (length x)) cut ∙ drop_at x rest (length x) refl)
+
+  -- the line itself, where it has a line feed and where it has none
+  part-ended : has_line_feed r ≡ true → x ≡ first_line r ++ (line_feed ∷ [])
+  part-ended t =
+      sym (take_at x rest (length x) refl) ∙ ap (take (length x)) (sym cut ∙ first_ended r t ∙ sym (append_assoc (first_line r) (line_feed ∷ []) (drop (used_by r) r)))
+      ∙ take_at (first_line r ++ (line_feed ∷ [])) (drop (used_by r) r) (length x) (length-append (first_line r) (line_feed ∷ []) ∙ sym (used ∙ used-ended r t))
+
+  part-last : has_line_feed r ≡ false → x ≡ first_line r
+  part-last t =
+      sym (take_at x rest (length x) refl) ∙ ap (take (length x)) (sym cut)
+      ∙ take_all (length x) r (omega (arith, used, used_all r t)) ∙ sym (first-all r t)
+
+  pub cut-front : (found : Option (Bor (List ℕ))) (whole : Bor (List ℕ)) → whole.now ≡ x
+      → MatchOption found (pointwise nat_eq (drop (length x - 1) x) (line_feed ∷ []) ≡ false)
+      (λ y. (pointwise nat_eq (drop (length x - 1) x) (line_feed ∷ []) ≡ true) × (y.now ≡ take (length x - 1) x) × (length y.now + 1 ≡ length x))
+      → (unwrap_or found whole).now ≡ first_line r
+  cut-front None whole w m =
+      by-test (has_line_feed r) (whole.now ≡ first_line r)
+      (λ t.
+      let n : length x - 1 ≡ length (first_line r) = omega (arith, used, used-ended r t) in
+      let feed : drop (length x - 1) x ≡ line_feed ∷ [] =
+      ap (λ (k : ℕ). drop k x) n ∙ ap (drop (length (first_line r))) (part-ended t) ∙ drop_at (first_line r) (line_feed ∷ []) (length (first_line r)) refl in
+      absurd (true≢false (sym (ap (λ (l : List ℕ). pointwise nat_eq l (line_feed ∷ [])) feed) ∙ m)))
+      (λ t. w ∙ part-last t)
+  cut-front (Some y) whole w (p, front, l) =
+      by-test (has_line_feed r) (y.now ≡ first_line r)
+      (λ t.
+      let n : length x - 1 ≡ length (first_line r) = omega (arith, used, used-ended r t) in
+      front ∙ ap (λ (k : ℕ). take k x) n ∙ ap (take (length (first_line r))) (part-ended t)
+      ∙ take_at (first_line r) (line_feed ∷ []) (length (first_line r)) refl)
+      (λ t. absurd (true≢false (sym p ∙ feedless-last x (ap has_line_feed (part-last t) ∙ first-feedless r))))
 
 -- ---- what `lines` is
 

@@ -1,34 +1,85 @@
 -- The loop that works through a whole log: what is still printed goes behind what is stored.
 -- Assumes nothing.
-use mathlib.Core.Path.{◌≡◌, refl, sym, ap, ap₂, ◌∙◌}
-use mathlib.Core.List.{List, [], ◌++◌, append-nil}
-use Prim.Native.Nat.{ℕ, ◌+◌, ◌-◌, ◌≤◌, min, zero-le}
+use mathlib.Core.Path.{◌≡◌, refl, sym, ap, ap₂, subst, ◌∙◌}
+use mathlib.Core.Bool.{Bool, true, false}
+use mathlib.Core.List.{List, [], ◌∷◌, ◌++◌}
+use Prim.Native.Nat.{ℕ, ◌+◌, ◌-◌, ◌≤◌, ◌<◌, min, zero-le}
 use native.Mathlib.Nat.{zero-add}
 use native.Mathlib.Omega.{arith}
-use lib.ListN.{length, take, drop, length-drop}
-use lib.Seq.{drop-drop, drop-length}
+use lib.Dec.{eqb}
+use lib.ListN.{length, take, drop, take-append-drop}
+use lib.Pointwise.{pointwise}
+use denote.Ref.{Bor}
+use denote.Param.Members.{Mut}
+use Rattle.std.specs.Prelude.{Option, Some, None, MatchOption, unwrap_or, nat_eq}
+use Rattle.std.specs.Fn.{ComputesKey, CalledAt}
+use Rattle.std.specs.Iterator.{Yields}
+use Rattle.std.specs.List.{IsFirstMatchOrLen}
+use Rattle.std.specs.Slice.Iter.{split_inclusive_rest, split_inclusive_callee}
+use Rattle.std.specs.declared.slice.SplitInclusive.{SplitInclusive}
+use Rattle.std.proofs.lemmas.Fn.{always_returns_same}
 use Rattle.laws.specs.Lists.{overwrite}
-use Rattle.laws.proofs.Copy.{part_end}
 use Rattle.pools.specs.State.{fresh}
 use Rattle.pools.specs.declared.Fortuna.{Fortuna}
 use Rattle.bench.specs.Buffers.{appended, held_after}
-use Rattle.bench.specs.Input.{lines_following, lines, transcript, used_by, line_buffer, Session, held_line, step_session, step_printed, finish_printed, session, Steps, Finishes}
-use Rattle.bench.specs.declared.input.StepOutcome.{StepOutcome}
-use Rattle.bench.proofs.Buffers.{length-appended, held-append, appended-append, length-overwrite, take-overwrite}
-use Rattle.bench.proofs.Sessions.{remaining, length-step, step-remaining}
-use Rattle.bench.proofs.Lines.{used-fits}
+use Rattle.bench.specs.Lines.{line_feed, LineEffect, line_of, Prints}
+use Rattle.bench.specs.Input.{lines, printed_from, transcript}
+use Rattle.bench.specs.declared.line.LineOutcome.{LineOutcome}
+use Rattle.bench.proofs.Buffers.{length-appended, held-append, appended-append, length-overwrite, take-overwrite, overwrite-nothing}
+use Rattle.bench.proofs.Lines.{lines-none, cut-lines, cut-front}
 
--- `at` characters of the input are used and `stored` of the output are in place: what the session still prints completes it
-pub record Logged (input out₀ out : List ℕ) (x : Session) (at stored : ℕ) : Type 0 where
-  pub within : at ≤ length input
-  pub buffer : length x.text ≡ line_buffer
+-- ---- the parts that `split_inclusive` gives
+
+-- a step: a part comes off the front of what is left
+abbrev pub Cuts : {F : Type 0} → Mut F (Bor ℕ × Unit {0}) Bool → SplitInclusive ℕ F → Option (Bor (List ℕ)) → SplitInclusive ℕ F → Type 0
+Cuts g s r t = MatchOption r ((length (split_inclusive_rest s) ≡ 0) × (t ≡ s))
+    (λ x. (split_inclusive_rest s ≡ x.now ++ split_inclusive_rest t)
+    × ((i : ℕ) × (length x.now ≡ min (i + 1) (length (split_inclusive_rest s))) × ((p : ℕ → Bool) → ComputesKey g p (split_inclusive_callee s)
+    → ComputesKey g p (split_inclusive_callee t) × IsFirstMatchOrLen p (split_inclusive_rest s) i))
+    × (0 < length (split_inclusive_rest s)))
+
+-- the test stays what it is
+test-kept : {F : Type 0} (g : Mut F (Bor ℕ × Unit {0}) Bool) (p : ℕ → Bool) (xs : List (Bor (List ℕ))) (s t : SplitInclusive ℕ F) → Yields (Cuts g) s xs t
+    → ComputesKey g p (split_inclusive_callee s) → ComputesKey g p (split_inclusive_callee t)
+test-kept g p [] s t y h = subst (λ (u : SplitInclusive ℕ _). ComputesKey g p (split_inclusive_callee u)) y h
+test-kept g p (x ∷ xs) s t y h = test-kept g p xs y.0 t y.2 (y.1.1.2 p h).0
+
+pub no-part : {F : Type 0} (g : Mut F (Bor ℕ × Unit {0}) Bool) (t u : SplitInclusive ℕ F) (r : Option (Bor (List ℕ))) → r ≡ None → Cuts g t r u
+    → length (split_inclusive_rest t) ≡ 0
+no-part g t u r is next = (subst (λ (o : Option (Bor (List ℕ))). Cuts g t o u) is next).0
+
+-- a part, and what is left behind it, where `found` is the part without its line feed
+module _ {F : Type 0} (g : Mut F (Bor ℕ × Unit {0}) Bool) (s t u : SplitInclusive ℕ F) (xs : List (Bor (List ℕ))) (sofar : Yields (Cuts g) s xs t)
+    (tests : (x : ℕ) (b : Bool) (q : F) → CalledAt g (split_inclusive_callee s) x b q → (q ≡ split_inclusive_callee s) × (b ≡ eqb x line_feed))
+    (r : Option (Bor (List ℕ))) (x : Bor (List ℕ)) (is : r ≡ Some x) (next : Cuts g t r u) where
+  cut : Cuts g t (Some x) u
+  cut = subst (λ (o : Option (Bor (List ℕ))). Cuts g t o u) is next
+
+  computes : ComputesKey g (λ c. eqb c line_feed) (split_inclusive_callee t)
+  computes =
+      test-kept g (λ c. eqb c line_feed) xs s t sofar
+      (always_returns_same g (λ a b. b ≡ eqb a.0.now line_feed) (split_inclusive_callee s)
+      (λ a b q k. let m = tests a.0.now b q (record { shown = a.0; shows = refl; called = k }) in (m.1, m.0)))
+
+  pub part-lines : (found : Option (Bor (List ℕ)))
+      → MatchOption found (pointwise nat_eq (drop (length x.now - 1) x.now) (line_feed ∷ []) ≡ false)
+      (λ y. (pointwise nat_eq (drop (length x.now - 1) x.now) (line_feed ∷ []) ≡ true) × (y.now ≡ take (length x.now - 1) x.now)
+      × (length y.now + 1 ≡ length x.now))
+      → lines (split_inclusive_rest t) ≡ (unwrap_or found x).now ∷ lines (split_inclusive_rest u)
+  part-lines found m =
+      let at = (cut.1.2 (λ c. eqb c line_feed) computes).1 in
+      cut-lines (split_inclusive_rest t) x.now (split_inclusive_rest u) cut.1.0 cut.0 cut.1.1 at cut.2
+      ∙ ap (λ (l : List ℕ). l ∷ lines (split_inclusive_rest u))
+      (sym (cut-front (split_inclusive_rest t) x.now (split_inclusive_rest u) cut.1.0 cut.0 cut.1.1 at found x refl m))
+
+-- ---- what was done
+
+-- of the input `rest` is left, and `stored` characters of the output are in place: what its lines print completes it
+pub record Logged (input out₀ out : List ℕ) (s : Fortuna) (rest : List ℕ) (stored : ℕ) : Type 0 where
+  pub within : stored ≤ length out₀
   pub kept : length out ≡ length out₀
-  pub shown : appended out stored (remaining x (drop at input)) ≡ overwrite out₀ (transcript input)
-  pub count : held_after out stored (remaining x (drop at input)) ≡ min (length (transcript input)) (length out₀)
-
-remaining-fresh : (text input : List ℕ) → remaining (session fresh text 0) input ≡ transcript input
-unfolding held_line transcript lines
-remaining-fresh text input = refl
+  pub shown : appended out stored (printed_from s (lines rest)) ≡ overwrite out₀ (transcript input)
+  pub count : held_after out stored (printed_from s (lines rest)) ≡ min (length (transcript input)) (length out₀)
 
 appended-front : (out line : List ℕ) → appended out 0 line ≡ overwrite out line
 unfolding appended
@@ -39,55 +90,44 @@ unfolding held_after
 held-front out line = rw zero-add
 
 -- nothing is used or stored yet
-pub logged_none : (input out text : List ℕ) (s : Fortuna) → s ≡ fresh → length text ≡ line_buffer → Logged input out out (session s text 0) 0 0
-logged_none input out text s e l =
-    let whole : remaining (session s text 0) input ≡ transcript input = rw e (remaining-fresh text input) in
+pub logged_none : (input out : List ℕ) (s : Fortuna) → s ≡ fresh → Logged input out out s input 0
+unfolding transcript
+logged_none input out s e =
     record {
       within = zero-le;
-      buffer = l;
       kept = refl;
-      shown = appended-front out _ ∙ ap (overwrite out) whole;
-      count = held-front out _ ∙ ap (λ (t : List ℕ). min (length t) (length out)) whole;
+      shown = appended-front out _ ∙ ap (λ (q : Fortuna). overwrite out (printed_from q (lines input))) e;
+      count = held-front out _ ∙ ap (λ (q : Fortuna). min (length (printed_from q (lines input))) (length out)) e;
     }
 
 -- what was written fits
-pub steps-fit : {x : Session} {rest : List ℕ} {r : StepOutcome} {text before after : List ℕ} → Steps x rest r text before after
-    → r.written ≤ length after
-steps-fit p = rw (p.written, p.shown, length-overwrite) p.fits
+pub prints-fit : {e : LineEffect} {before after : List ℕ} {o : LineOutcome} → Prints e o before after → o.written ≤ length after
+prints-fit p = rw (p.written, p.shown, length-overwrite) p.fits
 
-pub finishes-fit : {x : Session} {n : ℕ} {before after : List ℕ} → Finishes x n before after → n ≤ length after
-finishes-fit p = rw (p.written, p.shown, length-overwrite) p.fits
+-- nothing is printed where nothing is left
+silent : (s : Fortuna) (rest : List ℕ) → length rest ≡ 0 → printed_from s (lines rest) ≡ []
+unfolding printed_from
+silent s [] e = rw lines-none refl
+silent s (c ∷ rest) e = absurd (omega arith)
 
 -- and can be read back
 written-front : (line before after : List ℕ) (n : ℕ) → n ≡ length line → length line ≤ length before → after ≡ overwrite before line
     → take n after ≡ line
 written-front line before after n e h f = rw (e, f) (take-overwrite before line h)
 
--- a step over what is left of an input
-step-rest : (x : Session) (input : List ℕ) (at : ℕ) → length x.text ≡ line_buffer
-    → remaining x (drop at input) ≡ step_printed x (drop at input) ++ remaining (step_session x (drop at input)) (drop (at + used_by (drop at input)) input)
-step-rest x input at l =
-    let r = drop at input in
-    ap (remaining x) (sym (append-nil r))
-    ∙ step-remaining x r [] (rw l (omega arith))
-    ∙ ap (λ (rest : List ℕ). step_printed x r ++ remaining (step_session x r) rest) (append-nil (drop (used_by r) r) ∙ drop-drop (used_by r) at input)
-
-module _ (input out₀ out : List ℕ) (x : Session) (at stored : ℕ) (l : Logged input out₀ out x at stored) where
-  -- a step: it is given what is left of the input, and what it prints goes behind what is stored
-  module _ (r : StepOutcome) (text before after out' : List ℕ) (stored' : ℕ)
-      (stepped : Steps x (take (length input - at) (drop at input)) r text before after)
-      (added : (out' ≡ appended out stored (take r.written after)) × (stored' ≡ held_after out stored (take r.written after))) where
-    stepped-rest : Steps x (drop at input) r text before after
-    stepped-rest = rw part_end at stepped
-
+module _ (input out₀ out : List ℕ) (s : Fortuna) (rest : List ℕ) (stored : ℕ) (l : Logged input out₀ out s rest stored) where
+  -- a line, and what it prints goes behind what is stored
+  module _ (text rest' before after out' : List ℕ) (o : LineOutcome) (stored' : ℕ) (first : lines rest ≡ text ∷ lines rest')
+      (printed : Prints (line_of s text) o before after)
+      (added : (out' ≡ appended out stored (take o.written after)) × (stored' ≡ held_after out stored (take o.written after))) where
     abbrev line : List ℕ
-    line = step_printed x (drop at input)
+    line = (line_of s text).printed
 
-    abbrev rest : List ℕ
-    rest = remaining (step_session x (drop at input)) (drop (at + used_by (drop at input)) input)
+    abbrev more : List ℕ
+    more = printed_from o.next (lines rest')
 
-    front : take r.written after ≡ line
-    front = written-front line before after r.written stepped-rest.written stepped-rest.fits stepped-rest.shown
+    front : take o.written after ≡ line
+    front = written-front line before after o.written printed.written printed.fits printed.shown
 
     out-is : out' ≡ appended out stored line
     out-is = added.0 ∙ ap (appended out stored) front
@@ -95,40 +135,42 @@ module _ (input out₀ out : List ℕ) (x : Session) (at stored : ℕ) (l : Logg
     stored_is : stored' ≡ held_after out stored line
     stored_is = added.1 ∙ ap (held_after out stored) front
 
-    abbrev rest' : List ℕ
-    rest' = remaining (session r.next text r.held) (drop (at + r.used) input)
+    both : line ++ more ≡ printed_from s (lines rest)
+    unfolding printed_from
+    both = ap (λ (q : Fortuna). line ++ printed_from q (lines rest')) printed.next ∙ ap (printed_from s) (sym first)
 
-    rest-is : rest' ≡ rest
-    rest-is = ap₂ (λ (y : Session) (n : ℕ). remaining y (drop (at + n) input)) stepped-rest.next stepped-rest.used
+    stored-few : held_after out stored line ≤ length out₀
+    unfolding held_after
+    stored-few = omega (arith, l.kept)
 
-    both : line ++ rest ≡ remaining x (drop at input)
-    both = sym (step-rest x input at l.buffer)
-
-    pub logged-more : Logged input out₀ out' (session r.next text r.held) (at + r.used) stored'
+    pub logged-more : Logged input out₀ out' o.next rest' stored'
     logged-more =
         record {
-          within = rw stepped-rest.used (omega (arith, l.within, used-fits (drop at input), length-drop at input));
-          buffer = ap (λ (y : Session). length y.text) stepped-rest.next ∙ length-step x (drop at input) ∙ l.buffer;
+          within = rw stored_is stored-few;
           kept = rw out-is (length-appended out stored line ∙ l.kept);
           shown =
-              ap₂ (λ (o : List ℕ) (n : ℕ). appended o n rest') out-is stored_is
-              ∙ ap (appended (appended out stored line) (held_after out stored line)) rest-is
-              ∙ sym (appended-append out stored line rest)
+              ap₂ (λ (d : List ℕ) (n : ℕ). appended d n more) out-is stored_is
+              ∙ sym (appended-append out stored line more)
               ∙ ap (appended out stored) both
               ∙ l.shown;
           count =
-              ap₂ (λ (o : List ℕ) (n : ℕ). held_after o n rest') out-is stored_is
-              ∙ ap (held_after (appended out stored line) (held_after out stored line)) rest-is
-              ∙ sym (held-append out stored line rest)
+              ap₂ (λ (d : List ℕ) (n : ℕ). held_after d n more) out-is stored_is
+              ∙ sym (held-append out stored line more)
               ∙ ap (held_after out stored) both
               ∙ l.count;
         }
 
-  -- the end: what `finish` prints goes behind what is stored
-  pub logged-all : (n : ℕ) (before after out' : List ℕ) (stored' : ℕ) → at ≡ length input → Finishes x n before after
-      → (out' ≡ appended out stored (take n after)) × (stored' ≡ held_after out stored (take n after))
-      → (stored' ≡ min (length (transcript input)) (length out₀)) × (out' ≡ overwrite out₀ (transcript input))
-  logged-all n before after out' stored' e f (o, h) =
-      let front : take n after ≡ finish_printed x = written-front (finish_printed x) before after n f.written f.fits f.shown in
-      let last : finish_printed x ≡ remaining x (drop at input) = rw (e, drop-length) (unfold finish_printed lines_following in refl) in
-      (h ∙ ap (held_after out stored) (front ∙ last) ∙ l.count, o ∙ ap (appended out stored) (front ∙ last) ∙ l.shown)
+  -- nothing is left
+  appended-nothing : appended out stored [] ≡ out
+  unfolding appended
+  appended-nothing = rw (overwrite-nothing, take-append-drop)
+
+  held-nothing : held_after out stored [] ≡ stored
+  unfolding held_after
+  held-nothing = omega (arith, l.within, l.kept)
+
+  pub logged-all : length rest ≡ 0 → (stored ≡ min (length (transcript input)) (length out₀)) × (out ≡ overwrite out₀ (transcript input))
+  logged-all e = (
+    sym held-nothing ∙ ap (held_after out stored) (sym (silent s rest e)) ∙ l.count,
+    sym appended-nothing ∙ ap (appended out stored) (sym (silent s rest e)) ∙ l.shown,
+  )

@@ -8,36 +8,48 @@ use native.Mathlib.Omega.{arith}
 use lib.ListN.{length, take, drop, get_or, set, length-append, length-drop, drop_of_length-le}
 use lib.Seq.{drop-cons, set_at, append_snoc, drop-drop}
 use borrow.Author.Tests.{ne_eqb}
+use Rattle.std.specs.Prelude.{Result, Ok, Err}
 use Rattle.laws.specs.Lists.{overwrite}
 use Rattle.laws.proofs.Copy.{overwrite-fits, part_end}
+use Rattle.pools.specs.Promises.{code, code-above-0, number}
+use Rattle.pools.specs.declared.refusal.Refusal.{Refusal}
 use Rattle.bench.specs.Hexadecimal.{encode_hex, decimal}
-use Rattle.bench.specs.Lines.{space, line_feed, number_line, spaced, output_line}
+use Rattle.bench.specs.Lines.{space, line_feed, number_line, spaced, output_line, Shown}
 use Rattle.bench.proofs.Hexadecimal.{length-encode}
 
--- n characters were written, the line, and they stand at the front
-abbrev pub Shown : List ℕ → ℕ → List ℕ → List ℕ → Type 0
-Shown line n before after = (n ≡ length line) × (after ≡ overwrite before line)
-
 -- a refusal is its number alone
-pub output-refused : (number emptied : ℕ) (bytes : List ℕ) → (number ≡ 0 → ⊥) → number_line number ≡ output_line number emptied bytes
+output-refused : (number emptied : ℕ) (bytes : List ℕ) → (number ≡ 0 → ⊥) → number_line number ≡ output_line number emptied bytes
 unfolding output_line
 output-refused number emptied bytes h = rw (ne_eqb number 0 h)
 
+-- the line of an answer, where it refuses and where it does not
+module _ (answer : Result Unit Refusal) (emptied : ℕ) (bytes : List ℕ) (n : ℕ) (before after : List ℕ) where
+  pub refused-shown : (refusal : Refusal) → answer ≡ Err refusal → Shown (number_line (code refusal)) n before after
+      → Shown (output_line (number answer) emptied bytes) n before after
+  refused-shown refusal is (w, s) =
+      let e : number_line (code refusal) ≡ output_line (number answer) emptied bytes =
+      output-refused (code refusal) emptied bytes (λ z. omega (arith, code-above-0 refusal, z))
+      ∙ ap (λ (a : Result Unit Refusal). output_line (number a) emptied bytes) (sym is) in
+      (w ∙ ap length e, s ∙ ap (overwrite before) e)
+
+  pub done-shown : answer ≡ Ok tt → Shown (output_line 0 emptied bytes) n before after → Shown (output_line (number answer) emptied bytes) n before after
+  done-shown is s = rw is s
+
 -- ---- after 00
 
-output-done : (number emptied : ℕ) (bytes : List ℕ) → number ≡ 0
-    → output_line number emptied bytes ≡ decimal 0 ++ (space ∷ []) ++ decimal emptied ++ spaced bytes ++ (line_feed ∷ [])
+output-done : (emptied : ℕ) (bytes : List ℕ)
+    → output_line 0 emptied bytes ≡ decimal 0 ++ (space ∷ []) ++ decimal emptied ++ spaced bytes ++ (line_feed ∷ [])
 unfolding output_line
-output-done number emptied bytes e = rw e
+output-done emptied bytes = refl
 
 -- 00, a space, and the pools emptied
 abbrev pub front : ℕ → List ℕ → List ℕ
 front emptied rest = 48 ∷ 48 ∷ space ∷ (48 + emptied / 10) ∷ (48 + emptied % 10) ∷ rest
 
 -- no bytes
-pub output-none : (number emptied : ℕ) (bytes : List ℕ) → number ≡ 0 → length bytes ≡ 0 → output_line number emptied bytes ≡ front emptied (line_feed ∷ [])
-output-none number emptied [] e z = rw (output-done number emptied [] e) (unfold decimal spaced in refl)
-output-none number emptied (b ∷ bytes) e z = absurd (omega arith)
+pub output-none : (emptied : ℕ) (bytes : List ℕ) → length bytes ≡ 0 → output_line 0 emptied bytes ≡ front emptied (line_feed ∷ [])
+output-none emptied [] z = output-done emptied [] ∙ (unfold decimal spaced in refl)
+output-none emptied (b ∷ bytes) z = absurd (omega arith)
 
 -- a line feed stored behind what is written
 put-more : (p d : List ℕ) (n v : ℕ) → length p ≡ n → n < length d → set (p ++ drop n d) n v ≡ p ++ (v ∷ []) ++ drop (n + 1) d
@@ -82,11 +94,11 @@ module _ (emptied b : ℕ) (bytes out : List ℕ) (room : 7 + 2 * length (b ∷ 
             ∙ sym (overwrite-fits out (six ++ text ++ (line_feed ∷ [])) (omega (arith, l))),
       )
 
-pub output-some : (number emptied : ℕ) (bytes out first part : List ℕ) → number ≡ 0 → (length bytes ≡ 0 → ⊥) → 7 + 2 * length bytes ≤ length out
+-- the text is stored in the part of k characters from the seventh on
+pub output-some : (emptied : ℕ) (bytes out first part : List ℕ) (k : ℕ) → (length bytes ≡ 0 → ⊥) → 7 + 2 * length bytes ≤ length out → k ≡ length first - 6
     → first ≡ overwrite out (front emptied (space ∷ []))
-    → part ≡ encode_hex bytes ++ drop (2 * length bytes) (take (length first - 6) (drop 6 first))
-    → Shown (output_line number emptied bytes) (6 + 2 * length bytes + 1) out
-    (set (take 6 first ++ (part ++ drop (length first - 6) (drop 6 first))) (6 + 2 * length bytes) line_feed)
-output-some number emptied [] out first part e z h = absurd (z refl)
-output-some number emptied (b ∷ bytes) out first part e z h =
-    rw (output-done number emptied (b ∷ bytes) e) (unfold decimal spaced in some-shown emptied b bytes out h first part)
+    → part ≡ encode_hex bytes ++ drop (2 * length bytes) (take k (drop 6 first))
+    → Shown (output_line 0 emptied bytes) (6 + 2 * length bytes + 1) out (set (take 6 first ++ (part ++ drop k (drop 6 first))) (6 + 2 * length bytes) line_feed)
+output-some emptied [] out first part k z h l e f = absurd (z refl)
+output-some emptied (b ∷ bytes) out first part k z h l e f =
+    rw (output-done emptied (b ∷ bytes), l) (unfold decimal spaced in some-shown emptied b bytes out h first part e (rw l at f))

@@ -3,20 +3,18 @@
 use mathlib.Core.Path.{◌≡◌, refl, sym, ap, ◌∙◌}
 use mathlib.Core.Bool.{true, false}
 use mathlib.Core.List.{List, [], ◌∷◌, append-nil}
-use Prim.Native.Nat.{ℕ, ◌+◌, ◌-◌, ◌<◌, ◌≤◌, zero-le}
+use Prim.Native.Nat.{ℕ, ◌+◌, ◌<◌, zero-le}
 use native.Mathlib.Omega.{arith}
-use lib.ListN.{length, take, drop, length-take, length-drop}
+use lib.ListN.{length, take, length-take}
 use borrow.Author.Tests.{lt-ltb, le-ltb}
 use Rattle.laws.specs.Lists.{overwrite}
-use Rattle.laws.proofs.Copy.{part_end}
 use Rattle.pools.specs.declared.Fortuna.{Fortuna}
 use Rattle.bench.specs.Buffers.{appended, held_after}
 use Rattle.bench.specs.Lines.{line_of, Prints}
-use Rattle.bench.specs.Input.{final_line, printed_from, first_line, has_line_feed, used_by, Session, held_line, extended, ended, step_session, step_printed, finish_printed, session, Steps, Finishes}
+use Rattle.bench.specs.Input.{final_line, printed_from, first_line, has_line_feed, Session, held_line, extended, ended, step_session, step_printed, finish_printed, session, Steps, Finishes}
 use Rattle.bench.specs.declared.line.LineOutcome.{LineOutcome}
-use Rattle.bench.specs.declared.input.StepOutcome.{StepOutcome}
 use Rattle.bench.proofs.Buffers.{overwrite-nothing}
-use Rattle.bench.proofs.Lines.{first_fits, first-front, feed-test, used_all, used-ended, used-fits, used-more}
+use Rattle.bench.proofs.Lines.{first_fits, first-front, feed-test, used_all, used-ended}
 
 -- ---- the first line's length says whether a line feed ended it
 
@@ -101,16 +99,6 @@ module _ (s : Fortuna) (text : List ℕ) (held : ℕ) (chunk : List ℕ) (n h : 
           fits = rw (same fed) p.fits;
           shown = p.shown ∙ ap (overwrite out) (sym (same fed));
         }
-
--- a step over what is left of a chunk uses a character or more, and no more than there are
-pub steps-used : (chunk : List ℕ) (at : ℕ) (x : Session) (r : StepOutcome) (text before after : List ℕ)
-    → Steps x (take (length chunk - at) (drop at chunk)) r text before after
-    → at < length chunk → (0 < r.used) × (at + r.used ≤ length chunk)
-steps-used chunk at x r text before after p h =
-    let q : Steps x (drop at chunk) r text before after = rw part_end at p in
-    let some : 0 < used_by (drop at chunk) = used-more (drop at chunk) (rw length-drop (omega arith)) in
-    let fits : used_by (drop at chunk) ≤ length chunk - at = rw length-drop at (used-fits (drop at chunk)) in
-    rw q.used (some, omega arith)
 
 -- ---- the end of the input
 

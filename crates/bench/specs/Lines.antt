@@ -87,6 +87,10 @@ line_of s text = executed s (line_call text)
 
 -- ---- what the code promises
 
+-- a function writes a line at the front of a buffer, and returns how many characters it has
+abbrev pub Shown : List ℕ → ℕ → List ℕ → List ℕ → Type 0
+Shown line n before after = (n ≡ length line) × (after ≡ overwrite before line)
+
 -- a function prints a line: it returns the next state and how many characters it wrote at the front of the buffer, where they fit
 pub record Prints (o : LineEffect) (r : LineOutcome) (before after : List ℕ) : Type 0 where
   pub next : r.next ≡ o.next

@@ -11,6 +11,7 @@ fn is_digit(c: u8) -> bool
 }
 
 // What a digit stands for; 0 for any other character.
+// Kept: (a) 0, and no Option: the clause, by `digit_value`, says 0; a text is decoded only where `is_hex` holds.
 #[tactic(auto, unfolding(crate::specs::Hexadecimal::digit_value, crate::specs::Hexadecimal::is_decimal, crate::specs::Hexadecimal::is_capital))]
 fn digit_value(c: u8) -> u8
     ensures { result ≡ digit_value c }
@@ -31,15 +32,11 @@ fn byte(high: u8, low: u8) -> u8
 }
 
 // Whether every character is a digit. All are looked at, so that the compiler can take several at once.
-// Kept: (b) a test that ends at the first other character took 809 of a line's 1,729 instructions (docs/BENCHMARKS.md).
+// Kept: (b) `fold`, and no `all`: a test that ends at the first other character took 809 of a line's 1,729 instructions (docs/BENCHMARKS.md).
 fn all_digits(text: &[u8]) -> bool
     ensures { result ≡ all_digits text.now }
 {
-    let mut digits = true;
-    for c in text {
-        digits &= is_digit(*c);
-    }
-    digits
+    text.iter().fold(true, |digits, c| digits & is_digit(*c))
 }
 
 // Whether a text is digits alone, and an even number of them.
@@ -55,9 +52,9 @@ pub(crate) fn decode(text: &[u8], out: &mut [u8])
     requires { length text.now / 2 ≤ length out.old }
     ensures { out.new ≡ decode_hex text.now ++ drop (length text.now / 2) out.old }
 {
-    // Kept: (d) `zip` with `chunks_exact(2)` gives slices, of which `pair[0]` and `pair[1]` would be taken by index all the same.
-    for i in 0..text.len() / 2 {
-        out[i] = byte(text[2 * i], text[2 * i + 1]);
+    // Kept: (c) out by index: with `zip` of `out.iter_mut()` nothing is known of what out then holds.
+    for (i, [high, low]) in text.as_chunks::<2>().0.iter().enumerate() {
+        out[i] = byte(*high, *low);
     }
 }
 
@@ -75,9 +72,9 @@ pub(crate) fn encode(bytes: &[u8], out: &mut [u8])
     requires { 2 * length bytes.now ≤ length out.old }
     ensures { out.new ≡ encode_hex bytes.now ++ drop (2 * length bytes.now) out.old }
 {
-    // Kept: (d) `zip` with `chunks_exact_mut(2)` gives slices, of which `pair[0]` and `pair[1]` would be stored by index all the same.
-    for i in 0..bytes.len() {
-        out[2 * i] = digit_character(bytes[i] / 16);
-        out[2 * i + 1] = digit_character(bytes[i] % 16);
+    // Kept: (c) out by index: with `as_chunks_mut::<2>()` nothing is known of what out then holds.
+    for (i, b) in bytes.iter().enumerate() {
+        out[2 * i] = digit_character(*b / 16);
+        out[2 * i + 1] = digit_character(*b % 16);
     }
 }

@@ -1,9 +1,10 @@
 // An input that comes in chunks of any size.
-ghost use Rattle.std.specs.Prelude.{◌≡◌, length, take};
+ghost use Rattle.std.specs.Prelude.{◌≡◌, length};
 ghost use Rattle.bench.specs.Input.{first_line, session, Steps, Finishes};
 
 use crate::buffer::append;
 use crate::line::{MAX_OUTPUT, MAX_WIDE_LINE, line};
+use laws::front;
 use pools::Fortuna;
 
 // Room for a line that is too long to be a frame of any kind.
@@ -29,18 +30,9 @@ pub fn line_length(chunk: &[u8]) -> usize
         .unwrap_or(chunk.len())
 }
 
-// The line so far.
-fn held_line(text: &[u8], held: usize) -> &[u8]
-    ensures { result.now ≡ take held text.now }
-{
-    &text[..held.min(text.len())]
-}
-
-// Kept: (a) `state`, `text` and `held` side by side, here and in `finish`: a struct in their place would change the signatures of public functions,
-// and `text` is one of the caller's buffers (no heap), which a state given by value would copy.
 // A step over what is left of a chunk: it adds the characters before the first line feed to the line so far, and carries
 // the line out if a line feed ends it.
-// Kept: the line so far is a buffer and a length beside it, since StepOutcome (repr(C), its fields stay) gives the length back.
+// Kept: (a) `text` and `held` side by side, here and in `finish`: `held` is a field of StepOutcome (repr(C)), `text` the caller's (no heap).
 pub fn step(
     state: Fortuna,
     text: &mut [u8; LINE_BUFFER],
@@ -60,7 +52,7 @@ pub fn step(
             written: 0,
         };
     }
-    let o = line(state, held_line(text, now_held), out);
+    let o = line(state, front(text, now_held), out);
     StepOutcome {
         next: o.next,
         held: 0,
@@ -81,5 +73,5 @@ pub fn finish(
     if held == 0 {
         return 0;
     }
-    line(state, held_line(text, held), out).written
+    line(state, front(text, held), out).written
 }

@@ -1,5 +1,5 @@
 // One line: which frame it is, and what it does on a Fortuna state.
-ghost use Rattle.std.specs.Prelude.{◌≡◌, ◌+◌, ◌*◌, ◌≤◌, length, Some, None};
+ghost use Rattle.std.specs.Prelude.{◌≡◌, ◌≤◌, length, Some, None};
 ghost use Rattle.pools.specs.Calls.{event, request, update, write};
 ghost use Rattle.pools.specs.Refusals.{seed_size};
 ghost use Rattle.bench.specs.Frames.{max_line, frame_of, frame_of_text, is_readable};
@@ -20,8 +20,11 @@ const MAX_OTHER_LINE: usize = 256;
 // Room for the longest line that is printed: 00, the pools emptied, 65,535 bytes, and the line feed.
 pub const MAX_OUTPUT: usize = 2 * 65535 + 7;
 
-// Kept: (a) `next` beside the answer: the project's form, by which a call takes the state and gives the next one back.
+// What a line prints that is no frame.
+const NO_FRAME: u32 = 16;
+
 // The state after a line, and how many characters the line printed.
+// Kept: (a) `next` beside `written`: the project's form, by which a call takes the state and gives the next one back.
 #[repr(C)]
 #[derive(Clone, Copy)]
 pub struct LineOutcome {
@@ -59,19 +62,23 @@ pub fn frame_of_text(text: &[u8]) -> Option<Frame>
     parse(&bytes[..text.len() / 2])
 }
 
-// No frame: 16, and no call is made.
-fn invalid_line(state: Fortuna, out: &mut [u8]) -> LineOutcome
-    requires { 3 ≤ length out.old }
+// No frame: no call is made.
+fn invalid_line(state: Fortuna, out: &mut [u8; MAX_OUTPUT]) -> LineOutcome
     ensures { Prints (executed state None) result out.old out.new }
 {
     LineOutcome {
         next: state,
-        written: number_line(16, out),
+        written: number_line(NO_FRAME, out),
     }
 }
 
-fn event_line(state: Fortuna, source: u32, pool: u32, data: &[u8], out: &mut [u8]) -> LineOutcome
-    requires { 3 ≤ length out.old }
+fn event_line(
+    state: Fortuna,
+    source: u32,
+    pool: u32,
+    data: &[u8],
+    out: &mut [u8; MAX_OUTPUT],
+) -> LineOutcome
     ensures { Prints (executed state (Some (event source pool «data».now))) result out.old out.new }
 {
     let outcome = state.add_event(source, pool, data);
@@ -81,8 +88,7 @@ fn event_line(state: Fortuna, source: u32, pool: u32, data: &[u8], out: &mut [u8
     }
 }
 
-fn request_line(state: Fortuna, clock: u32, count: u16, out: &mut [u8]) -> LineOutcome
-    requires { 131077 ≤ length out.old }
+fn request_line(state: Fortuna, clock: u32, count: u16, out: &mut [u8; MAX_OUTPUT]) -> LineOutcome
     ensures { Prints (executed state (Some (request clock (zeros count)))) result out.old out.new }
 {
     let mut bytes = [0u8; 65535];
@@ -90,36 +96,40 @@ fn request_line(state: Fortuna, clock: u32, count: u16, out: &mut [u8]) -> LineO
     let outcome = state.random_data(clock, &mut bytes[..n]);
     LineOutcome {
         next: outcome.next,
-        written: output_line(number_of(outcome.answer), outcome.emptied, &bytes[..n], out),
+        written: output_line(&outcome, &bytes[..n], out),
     }
 }
 
-fn update_line(state: Fortuna, clock: u32, seed: &mut [u8], out: &mut [u8]) -> LineOutcome
-    requires { 7 + 2 * length seed.old ≤ length out.old }
+fn update_line(
+    state: Fortuna,
+    clock: u32,
+    seed: &mut [u8],
+    out: &mut [u8; MAX_OUTPUT],
+) -> LineOutcome
+    requires { length seed.old ≤ 65535 }
     ensures { Prints (executed state (Some (update clock seed.old))) result out.old out.new }
 {
     let outcome = state.update_seed(clock, seed);
     LineOutcome {
         next: outcome.next,
-        written: output_line(number_of(outcome.answer), outcome.emptied, seed, out),
+        written: output_line(&outcome, seed, out),
     }
 }
 
-fn write_line(state: Fortuna, clock: u32, out: &mut [u8]) -> LineOutcome
-    requires { 135 ≤ length out.old }
+fn write_line(state: Fortuna, clock: u32, out: &mut [u8; MAX_OUTPUT]) -> LineOutcome
     ensures { Prints (executed state (Some (write clock (zeros seed_size)))) result out.old out.new }
 {
     let mut seed = [0u8; 64];
     let outcome = state.write_seed(clock, &mut seed);
     LineOutcome {
         next: outcome.next,
-        written: output_line(number_of(outcome.answer), outcome.emptied, &seed, out),
+        written: output_line(&outcome, &seed, out),
     }
 }
 
 // The call of a frame of bytes. An update writes over its seed.
-fn execute(state: Fortuna, bytes: &mut [u8], out: &mut [u8]) -> LineOutcome
-    requires { (131077 ≤ length out.old) × (length bytes.old ≤ 129) }
+fn execute(state: Fortuna, bytes: &mut [u8], out: &mut [u8; MAX_OUTPUT]) -> LineOutcome
+    requires { length bytes.old ≤ 129 }
     ensures { Prints (executed state (call_of (frame_of bytes.old) bytes.old)) result out.old out.new }
 {
     match parse(bytes) {

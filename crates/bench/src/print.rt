@@ -1,10 +1,12 @@
 // What a line prints.
-ghost use Rattle.std.specs.Prelude.{◌≡◌, ◌+◌, ◌*◌, ◌≤◌, ◌<◌, length};
-ghost use Rattle.laws.specs.Lists.{overwrite};
-ghost use Rattle.bench.specs.Lines.{number_line, output_line};
+ghost use Rattle.std.specs.Prelude.{◌≡◌, ◌+◌, ◌≤◌, ◌<◌, length};
+ghost use Rattle.pools.specs.Promises.{number};
+ghost use Rattle.bench.specs.Lines.{number_line, output_line, Shown};
 
 use crate::hex::encode;
-use laws::overwrite;
+use crate::line::MAX_OUTPUT;
+use laws::{Numbered, overwrite};
+use pools::{Fortuna, Outcome};
 
 // The digit of a number below 10.
 fn decimal_digit(n: u32) -> u8
@@ -16,9 +18,9 @@ fn decimal_digit(n: u32) -> u8
 
 // A number below 100 in two decimal digits, and the line feed.
 #[tactic(auto, unfolding(crate::specs::Lines::number_line, crate::specs::Hexadecimal::decimal))]
-pub(crate) fn number_line(number: u32, out: &mut [u8]) -> usize
-    requires { (number < 100) × (3 ≤ length out.old) }
-    ensures { (result ≡ length (number_line number)) × (out.new ≡ overwrite out.old (number_line number)) }
+pub(crate) fn number_line(number: u32, out: &mut [u8; MAX_OUTPUT]) -> usize
+    requires { number < 100 }
+    ensures { Shown (number_line number) result out.old out.new }
 {
     let line = [
         decimal_digit(number / 10),
@@ -29,16 +31,20 @@ pub(crate) fn number_line(number: u32, out: &mut [u8]) -> usize
     line.len()
 }
 
-// The line of a request, an update or a write.
-pub(crate) fn output_line(number: u32, emptied: u32, bytes: &[u8], out: &mut [u8]) -> usize
-    requires { (number < 100) × (emptied < 100) × (7 + 2 * length bytes.now ≤ length out.old) }
-    ensures { (result ≡ length (output_line number emptied bytes.now)) × (out.new ≡ overwrite out.old (output_line number emptied bytes.now)) }
+// The line of a request, an update or a write, by what it came to: a refusal's number, or 00, the pools emptied, and the bytes.
+pub(crate) fn output_line(
+    outcome: &Outcome<Fortuna>,
+    bytes: &[u8],
+    out: &mut [u8; MAX_OUTPUT],
+) -> usize
+    requires { (outcome.now.emptied < 100) × (length bytes.now ≤ 65535) }
+    ensures { Shown (output_line (number outcome.now.answer) outcome.now.emptied bytes.now) result out.old out.new }
 {
-    if number != 0 {
-        return number_line(number, out);
+    if let Err(refusal) = outcome.answer {
+        return number_line(refusal.number(), out);
     }
-    let tens = decimal_digit(emptied / 10);
-    let ones = decimal_digit(emptied % 10);
+    let tens = decimal_digit(outcome.emptied / 10);
+    let ones = decimal_digit(outcome.emptied % 10);
     if bytes.is_empty() {
         let line = [b'0', b'0', b' ', tens, ones, b'\n'];
         overwrite(out, &line);

@@ -42,7 +42,8 @@ fn passes(rt: &impl Clock, error: &io::Error) -> bool {
     kind == ErrorKind::Interrupted
 }
 
-// Writes all of out to standard output. Nothing says that a descriptor ever takes a byte, so the loop counts its turns, as run does.
+// Writes all of out to standard output.
+// Kept: (a) turns are counted to a number that no run uses up: nothing says that an output ever takes a byte (docs/decisions/bench.md).
 fn write_all(rt: &(impl Print + Clock), out: &[u8]) -> Result<(), Failure> {
     let mut rest = out;
     for _ in 0..u64::MAX {
@@ -62,26 +63,23 @@ fn write_all(rt: &(impl Print + Clock), out: &[u8]) -> Result<(), Failure> {
     Err(Failure::Full)
 }
 
-// The state, and how many characters of the line so far are held.
-#[derive(Clone, Copy)]
+// The state, the line so far with how many of its characters are held, and room for what a line prints.
+#[derive(Drop)]
 struct Session {
     state: Fortuna,
+    text: [u8; LINE_BUFFER],
     held: usize,
+    out: [u8; MAX_OUTPUT],
 }
 
 impl Session {
     // Carries out the lines that end in a chunk.
-    fn feed(
-        &mut self,
-        rt: &(impl Print + Clock),
-        text: &mut [u8; LINE_BUFFER],
-        chunk: &[u8],
-        out: &mut [u8; MAX_OUTPUT],
-    ) -> Result<(), Failure> {
+    fn feed(&mut self, rt: &(impl Print + Clock), chunk: &[u8]) -> Result<(), Failure> {
         let mut rest = chunk;
+        // Kept: (d) no `for`: `split_inclusive` would look for each line feed first, and `step` does again.
         while !rest.is_empty() {
-            let o = step(self.state, text, self.held, rest, out);
-            write_all(rt, &out[..o.written])?;
+            let o = step(self.state, &mut self.text, self.held, rest, &mut self.out);
+            write_all(rt, &self.out[..o.written])?;
             self.state = o.next;
             self.held = o.held;
             rest = &rest[o.used..];
@@ -90,30 +88,26 @@ impl Session {
     }
 
     // Carries out a last line that has no line feed.
-    fn end(
-        &self,
-        rt: &(impl Print + Clock),
-        text: &[u8; LINE_BUFFER],
-        out: &mut [u8; MAX_OUTPUT],
-    ) -> Result<(), Failure> {
-        let written = finish(self.state, text, self.held, out);
-        write_all(rt, &out[..written])
+    fn end(&mut self, rt: &(impl Print + Clock)) -> Result<(), Failure> {
+        let written = finish(self.state, &self.text, self.held, &mut self.out);
+        write_all(rt, &self.out[..written])
     }
 }
 
-// Nothing says that an input ends, so the loop counts its turns to a number that no run uses up.
+// Carries out all lines of an input.
+// Kept: (a) turns are counted to a number that no run uses up: nothing says that an input ends (docs/decisions/bench.md).
 fn run(rt: &(impl Print + Clock), input: &mut impl Read) -> Result<(), Failure> {
     let mut session = Session {
         state: Fortuna::new(),
+        text: [0u8; LINE_BUFFER],
         held: 0,
+        out: [0u8; MAX_OUTPUT],
     };
-    let mut text = [0u8; LINE_BUFFER];
-    let mut out = [0u8; MAX_OUTPUT];
     let mut chunk = [0u8; CHUNK];
     for _ in 0..u64::MAX {
         match input.read(&mut chunk) {
             Ok(0) => break,
-            Ok(n) => session.feed(rt, &mut text, &chunk[..n], &mut out)?,
+            Ok(n) => session.feed(rt, &chunk[..n])?,
             Err(error) => {
                 if !passes(rt, &error) {
                     return Err(Failure::Read(error));
@@ -121,7 +115,7 @@ fn run(rt: &(impl Print + Clock), input: &mut impl Read) -> Result<(), Failure> 
             }
         }
     }
-    session.end(rt, &text, &mut out)
+    session.end(rt)
 }
 
 // Where standard error cannot be written either, nothing is left to tell it to.

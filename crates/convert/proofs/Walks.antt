@@ -1,18 +1,19 @@
 -- The lines of a log, one after the other, as the code walks them.
 -- Assumes nothing.
 use mathlib.Core.Path.{◌≡◌, refl, sym, ap, ap₂, ◌∙◌}
-use mathlib.Core.Bool.{Bool}
+use mathlib.Core.Bool.{Bool, false}
 use mathlib.Core.List.{List, [], ◌∷◌, ◌++◌, append_assoc, append-nil}
 use Prim.Native.Nat.{ℕ, suc, ◌+◌, ◌-◌, ◌≤◌, ◌<◌}
 use native.Mathlib.Nat.{le_of_eq}
 use native.Mathlib.Omega.{arith}
 use lib.ListN.{length, take, drop, length-append, length-drop, take-append-drop, drop_of_length-le}
 use lib.Seq.{drop-drop, take_at, drop_at, length-take-le}
-use borrow.Author.Tests.{eq-eqb, ne_eqb}
+use lib.Dec.{eqb}
+use borrow.Author.Tests.{eq-eqb, ne_eqb, eqb-false}
 use Rattle.std.specs.Prelude.{Ok, Err}
+use Rattle.std.proofs.lemmas.List.{nil_from_length}
 use Rattle.laws.specs.Lists.{overwrite}
 use Rattle.laws.proofs.Copy.{overwrite-fits, part_end}
-use Rattle.bench.specs.Input.{used_by}
 use Rattle.bench.proofs.Buffers.{overwrite-nothing}
 use Rattle.bench.proofs.Lines.{used-more, used-fits}
 use Rattle.convert.specs.Logs.{Line, log_lines, written_of, refusal_of, Conversion, all_written, with_bytes, converted_lines, conversion}
@@ -23,20 +24,18 @@ use Rattle.convert.proofs.LogLines.{lines_none, lines-first}
 use Rattle.convert.proofs.Conversions.{line-accepted, goes_on, stops, no_lines, with-with, number-with}
 use Rattle.convert.proofs.FirstRefused.{first-refused}
 
--- what was done of a log, up to a place: so many bytes are written, and what is left to do comes after them
-pub record Walked (wide : Bool) (log out₀ out : List ℕ) (at line written : ℕ) : Type 0 where
-  pub within : at ≤ length log
+-- what was done of a log, of which `left` is still to be done: so many bytes are written, and what comes of the rest comes after them
+pub record Walked (wide : Bool) (log out₀ out left : List ℕ) (line written : ℕ) : Type 0 where
   pub room : written ≤ length out₀
   pub kept : length out ≡ length out₀
-  pub lines-few : line ≤ at + 1
+  pub lines-few : line + length left ≤ length log + 1
   pub rest : drop written out ≡ drop written out₀
   pub whole :
       conversion wide (length out₀) log
-      ≡ with_bytes (take written out) (converted_lines wide (length out₀ - written) line (log_lines (drop at log)))
+      ≡ with_bytes (take written out) (converted_lines wide (length out₀ - written) line (log_lines left))
 
-pub walked_none : (wide : Bool) (log out : List ℕ) → Walked wide log out out 0 1 0
+pub walked_none : (wide : Bool) (log out : List ℕ) → Walked wide log out out log 1 0
 walked_none wide log out = record {
-  within = omega arith;
   room = omega arith;
   kept = refl;
   lines-few = omega arith;
@@ -48,6 +47,10 @@ walked_none wide log out = record {
     begun =
         unfold conversion with_bytes in
         let z : length out - 0 ≡ length out = omega arith in ap (λ (n : ℕ). converted_lines wide n 1 (log_lines log)) (sym z)
+
+-- what the loop's test says
+pub some-left : (left : List ℕ) (empty : Bool) → empty ≡ eqb (length left) 0 → empty ≡ false → 0 < length left
+some-left left empty e f = omega (arith, eqb-false (length left) 0 (sym e ∙ f))
 
 -- what a buffer holds where its front is written and the rest is as it was
 front-is : (out₀ out : List ℕ) (n : ℕ) → n ≤ length out₀ → length out ≡ length out₀ → drop n out ≡ drop n out₀
@@ -71,11 +74,8 @@ module _ (wide : Bool) (room : ℕ) (l : Line) where
   unfolding line_writes
   writes-none n = rw (ne_eqb (refusal_of wide room l) 0 n)
 
-module _ (wide : Bool) (log out₀ out : List ℕ) (at line written : ℕ) (w : Walked wide log out₀ out at line written) where
-  -- what is left of the log, and of the buffer
-  abbrev ahead : List ℕ
-  ahead = drop at log
-
+module _ (wide : Bool) (log out₀ out left : List ℕ) (line written : ℕ) (w : Walked wide log out₀ out left line written) where
+  -- what is left of the buffer
   abbrev part : List ℕ
   part = take (length out - written) (drop written out)
 
@@ -96,9 +96,9 @@ module _ (wide : Bool) (log out₀ out : List ℕ) (at line written : ℕ) (w : 
       ap (λ (x : Conversion). x.written) e ∙ (unfold with_bytes in ap (λ (x : List ℕ). take written out ++ x) none ∙ append-nil (take written out)) in
       (sym (ap length all ∙ front-size), front-is out₀ out written w.room w.kept w.rest ∙ ap (overwrite out₀) (sym all))
 
-  pub walk_ends : length log ≤ at → Gives (conversion wide (length out₀) log) (record { answer = Ok tt; written = written }) out₀ out
+  pub walk_ends : length left ≡ 0 → Gives (conversion wide (length out₀) log) (record { answer = Ok tt; written = written }) out₀ out
   walk_ends h =
-      let none : ahead ≡ [] = drop_of_length-le log {i = at} h in
+      let none : left ≡ [] = nil_from_length left h in
       let e : conversion wide (length out₀) log ≡ with_bytes (take written out) (all_written []) =
       w.whole ∙ ap (with_bytes (take written out)) (ap (λ (x : List ℕ). converted_lines wide (length out₀ - written) line (log_lines x)) none
       ∙ ap (converted_lines wide (length out₀ - written) line) lines_none ∙ no_lines wide (length out₀ - written) line) in
@@ -112,36 +112,33 @@ module _ (wide : Bool) (log out₀ out : List ℕ) (at line written : ℕ) (w : 
       }
 
   -- a line more
-  module _ (inside : at < length log) (o : FirstLine) (part' : List ℕ)
-      (g : ConvertsFirst wide (take (length log - at) (drop at log)) o part part') where
-    rest-is : take (length log - at) (drop at log) ≡ ahead
-    rest-is = part_end at log
-
-    left-size : length ahead ≡ length log - at
-    left-size = length-drop at log
-
-    used-is : o.used ≡ used_by ahead
-    used-is = g.used-is ∙ ap used_by rest-is
-
+  module _ (some : 0 < length left) (o : FirstLine) (part' : List ℕ) (g : ConvertsFirst wide left o part part') where
     pub used-some : 0 < o.used
-    used-some = omega (arith, used-is, used-more ahead (omega (arith, left-size)))
+    used-some = omega (arith, g.used-is, used-more left some)
 
-    pub at-within : at + o.used ≤ length log
-    at-within = omega (arith, used-is, used-fits ahead, left-size)
+    pub used-within : o.used ≤ length left
+    used-within = omega (arith, g.used-is, used-fits left)
+
+    -- what the line leaves
+    abbrev after : List ℕ
+    after = take (length left - o.used) (drop o.used left)
+
+    after-is : after ≡ drop o.used left
+    after-is = part_end o.used left
+
+    pub after-size : length after + o.used ≡ length left
+    after-size = omega (arith, ap length after-is, length-drop o.used left, used-within)
 
     abbrev here : Line
-    here = first_of ahead
+    here = first_of left
 
     abbrev behind : List Line
-    behind = log_lines (drop (at + o.used) log)
+    behind = log_lines after
 
-    same_here : first_of (take (length log - at) (drop at log)) ≡ here
-    same_here = ap first_of rest-is
-
-    lines-here : log_lines ahead ≡ here ∷ behind
+    lines-here : log_lines left ≡ here ∷ behind
     lines-here =
-        lines-first ahead (omega (arith, left-size))
-        ∙ ap (λ (x : List ℕ). here ∷ log_lines x) (ap (λ (n : ℕ). drop n ahead) (sym used-is) ∙ drop-drop o.used at log)
+        lines-first left some
+        ∙ ap (λ (x : List ℕ). here ∷ log_lines x) (ap (λ (n : ℕ). drop n left) (sym g.used-is) ∙ sym after-is)
 
     -- what is left to do begins with this line
     abbrev remaining : Conversion
@@ -153,10 +150,7 @@ module _ (wide : Bool) (log out₀ out : List ℕ) (at line written : ℕ) (w : 
         ∙ ap₂ (λ (k : ℕ) (ls : List Line). with_bytes (take written out) (converted_lines wide k line ls)) (sym part_room) lines-here
 
     number_is : number o.written ≡ refusal_of wide (length part) here
-    number_is = g.converts.number_is ∙ ap (refusal_of wide (length part)) same_here
-
-    bytes-are : line_writes wide (length part) (first_of (take (length log - at) (drop at log))) ≡ line_writes wide (length part) here
-    bytes-are = ap (line_writes wide (length part)) same_here
+    number_is = g.converts.number_is
 
     abbrev out' : List ℕ
     out' = take written out ++ (part' ++ drop (length out - written) (drop written out))
@@ -167,19 +161,19 @@ module _ (wide : Bool) (log out₀ out : List ℕ) (at line written : ℕ) (w : 
       code-is : code refusal ≡ refusal_of wide (length part) here
       code-is = sym (ap number refused) ∙ number_is
 
-      some : refusal_of wide (length part) here ≡ 0 → ⊥
-      some e = omega (arith, code-is, code-above-0 refusal, e)
+      is-some : refusal_of wide (length part) here ≡ 0 → ⊥
+      is-some e = omega (arith, code-is, code-above-0 refusal, e)
 
       same_out : out' ≡ out
       same_out =
-          let none = bytes-are ∙ writes-none wide (length part) here some in
+          let none = writes-none wide (length part) here is-some in
           let e : part' ≡ part = g.converts.buffer-is ∙ ap (overwrite part) none ∙ overwrite-nothing part in
           rw (e, take-append-drop (length out - written) (drop written out)) (take-append-drop written out)
 
       pub walk-stops : Gives (conversion wide (length out₀) log)
           (record { answer = Err (record { line = line; refusal = refusal }); written = written }) out₀ out'
       walk-stops =
-          let end = stops wide (length part) line here behind some in
+          let end = stops wide (length part) line here behind is-some in
           let e = whole_here ∙ ap (with_bytes (take written out)) end in
           let s = so_far (record { written = []; number = refusal_of wide (length part) here; line = line }) e refl in
           record {
@@ -203,14 +197,14 @@ module _ (wide : Bool) (log out₀ out : List ℕ) (at line written : ℕ) (w : 
       new-fits = (line-accepted wide (length part) here none).fits
 
       new-size : count ≡ length new
-      new-size = sym (ap written_bytes taken) ∙ g.converts.written_is ∙ ap length (bytes-are ∙ writes-all wide (length part) here none)
+      new-size = sym (ap written_bytes taken) ∙ g.converts.written_is ∙ ap length (writes-all wide (length part) here none)
 
       out-is : out' ≡ (take written out ++ new) ++ drop (written + count) out₀
       out-is =
           let z : drop (length out - written) (drop written out) ≡ [] =
           drop_of_length-le (drop written out) {i = length out - written} (le_of_eq (length-drop written out)) in
           let p : part' ≡ new ++ drop (written + count) out₀ =
-          g.converts.buffer-is ∙ ap (overwrite part) (bytes-are ∙ writes-all wide (length part) here none) ∙ overwrite-fits part new new-fits
+          g.converts.buffer-is ∙ ap (overwrite part) (writes-all wide (length part) here none) ∙ overwrite-fits part new new-fits
           ∙ ap (λ (x : List ℕ). new ++ x) (ap₂ drop (sym new-size) part-is ∙ drop-drop count written out₀) in
           rw (z, append-nil part', p) (sym (append_assoc (take written out) new (drop (written + count) out₀)))
 
@@ -230,14 +224,13 @@ module _ (wide : Bool) (log out₀ out : List ℕ) (at line written : ℕ) (w : 
           ∙ ap₂ (λ (n m : ℕ). with_bytes (take written out ++ new) (converted_lines wide n m behind)) k next
           ∙ ap (λ (x : List ℕ). with_bytes x (converted_lines wide (length out₀ - (written + count)) (line + 1) behind)) (sym front-now)
 
-      pub walk-on : Walked wide log out₀ out' (at + o.used) (line + 1) (written + count)
+      pub walk-on : Walked wide log out₀ out' after (line + 1) (written + count)
       walk-on = record {
-        within = at-within;
         room = omega (arith, new-fits, new-size, part_room, w.room);
         kept =
             ap length out-is ∙ length-append (take written out ++ new) (drop (written + count) out₀)
             ∙ omega (arith, new-front, length-drop (written + count) out₀, new-fits, new-size, part_room, w.room);
-        lines-few = omega (arith, w.lines-few, used-some);
+        lines-few = omega (arith, w.lines-few, used-some, after-size);
         rest = ap (drop (written + count)) out-is ∙ drop_at (take written out ++ new) _ (written + count) new-front;
         whole = whole-more;
       }

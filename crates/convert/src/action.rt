@@ -11,7 +11,7 @@ const MAX_NARROW_SOURCE: u32 = 255;
 
 // It stays; 01 becomes 05; 05 becomes 01.
 #[derive(Clone, Copy)]
-pub enum Action {
+pub(crate) enum Action {
     Keep,
     Widen,
     Narrow,
@@ -40,7 +40,7 @@ fn wide_event_action(source: u32, wide: bool) -> Result<Action, Refusal>
 
 // What is to be done with a line where 05 is wanted (`wide`), or 01; or why it is refused.
 #[tactic(auto, unfolding(crate::specs::Texts::action_of))]
-pub fn action_of(frame: Option<Frame>, wide: bool) -> Result<Action, Refusal>
+pub(crate) fn action_of(frame: Option<Frame>, wide: bool) -> Result<Action, Refusal>
     ensures { result ≡ action_of wide frame }
 {
     match frame {

@@ -18,12 +18,12 @@ pub use refusal::Refusal;
 pub fn convert(log: &[u8], wide: bool, out: &mut [u8]) -> Outcome
     ensures { Gives (conversion wide (length out.old) log.now) result out.old out.new }
 {
-    // Kept: (d) a turn goes on by the length of the line that it read, told by `convert_first` alone: no `for` has that step, and counts `line` with it.
-    let mut at = 0;
+    let mut rest = log;
     let mut line = 1;
     let mut written = 0;
-    while at < log.len() {
-        let first = convert_first(&log[at..], wide, &mut out[written..]);
+    // Kept: (d) no `for`: `split_inclusive` would look for each line feed first, and `convert_first` does again.
+    while !rest.is_empty() {
+        let first = convert_first(rest, wide, &mut out[written..]);
         match first.written {
             Ok(n) => written += n,
             Err(refusal) => {
@@ -33,7 +33,7 @@ pub fn convert(log: &[u8], wide: bool, out: &mut [u8]) -> Outcome
                 };
             }
         }
-        at += first.used;
+        rest = &rest[first.used..];
         line += 1;
     }
     Outcome {

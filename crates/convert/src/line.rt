@@ -7,20 +7,13 @@ use crate::action::{Action, action_of};
 use crate::refusal::Refusal;
 use bench::input::line_length;
 use bench::line::frame_of_text;
-use laws::overwrite;
+use laws::{after, overwrite};
 
 // How many bytes of the log the first line and its end take; and how many were written for them, or why the line is refused.
 #[derive(Clone, Copy)]
-pub struct FirstLine {
+pub(crate) struct FirstLine {
     pub used: usize,
     pub written: Result<usize, Refusal>,
-}
-
-// The text from a place on; nothing past its end, so that no caller has to show how long a frame is.
-fn rest_of(text: &[u8], n: usize) -> &[u8]
-    ensures { result.now ≡ drop n text.now }
-{
-    &text[n.min(text.len())..]
 }
 
 // How many characters end a line.
@@ -72,13 +65,13 @@ fn convert_line(text: &[u8], ended: bool, wide: bool, out: &mut [u8]) -> Result<
 {
     match action_of(frame_of_text(text), wide)? {
         Action::Keep => put(b"", text, ended, out),
-        Action::Widen => put(b"0500", rest_of(text, 2), ended, out),
-        Action::Narrow => put(b"01", rest_of(text, 4), ended, out),
+        Action::Widen => put(b"0500", after(text, 2), ended, out),
+        Action::Narrow => put(b"01", after(text, 4), ended, out),
     }
 }
 
 // The first line of what is left of a log.
-pub fn convert_first(rest: &[u8], wide: bool, out: &mut [u8]) -> FirstLine
+pub(crate) fn convert_first(rest: &[u8], wide: bool, out: &mut [u8]) -> FirstLine
     ensures { ConvertsFirst wide rest.now result out.old out.new }
 {
     let n = line_length(rest);

@@ -15,4 +15,4 @@ returns c =
     let a = c.args in
     let full : length a.text.now ≡ 259 = search rules in
     finishes-some a.state a.text.now a.held _ a.out.now _ c.line.result
-    c.if-held-eq0.false (omega arith) c.held_line.ensures c.line.ensures
+    c.if-held-eq0.false (omega arith) c.front.ensures c.line.ensures

@@ -33,4 +33,4 @@ returns c =
     let a = c.args in
     let n = c.line_length-n in
     steps-ended a.state a.text.now a.held a.chunk.now n.result c.append-now_held.result _ n.ensures c.append-now_held.ensures
-    _ a.out.now _ c.line-o.result c.if-n-chunk.false c.held_line.ensures c.line-o.ensures
+    _ a.out.now _ c.line-o.result c.if-n-chunk.false c.front.ensures c.line-o.ensures

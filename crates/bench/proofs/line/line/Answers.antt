@@ -36,7 +36,7 @@ execute-requires c =
     let e = decoded-front t c.decode.new.out _ c.decode.ensures in
     let l : length (take (length t / 2) c.decode.new.out) ≡ length t / 2 = ap length e ∙ length-decode t in
     let short = readable-short t (sym c.is_readable.ensures ∙ not-false _ (ap not c.if-not-is_readable.false)) in
-    (search rules, omega arith)
+    omega arith
 
 pub returns : goal.returns
 returns c =

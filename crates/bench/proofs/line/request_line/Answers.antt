@@ -2,13 +2,12 @@ use mathlib.Core.Path.{◌≡◌, refl, sym, ap, ◌∙◌}
 use Prim.Native.Nat.{ℕ, ◌≤◌}
 use mathlib.Core.List.{List}
 use native.Mathlib.Omega.{arith}
-use lib.ListN.{take, replicate, length-append}
+use lib.ListN.{length, take, replicate, length-append}
 use borrow.Author.Rules.{rules}
 use Rattle.pools.specs.Calls.{request}
 use Rattle.bench.specs.Buffers.{zeros}
 use Rattle.bench.proofs.Buffers.{front-zeros, length-front-zeros, length_back, front-back, length-front-back}
 use Rattle.bench.proofs.Executed.{request-lends, emptied-small, output-prints}
-use Rattle.pools.proofs.Bounds.{answer-small}
 use Rattle.bench.proofs.line.request_line.Goals as goal
 
 -- the buffer that is lent
@@ -43,9 +42,8 @@ output_line-requires c =
     let a = c.args in
     let call = c.random_data-outcome in
     let e : take n blank ≡ zeros a.count = front-zeros n 65535 blank fits blank-is ∙ ap zeros c.from-n.ensures in (
-      rw c.number_of.ensures (answer-small call.result.answer),
       emptied-small a.state (request a.clock (zeros a.count)) call.result (rw e at call.ensures.0),
-      omega (arith, c.requires, fits, length-front-back n 65535 blank fits blank-is call.new.out call.auto.out),
+      omega (arith, fits, length-front-back n 65535 blank fits blank-is call.new.out call.auto.out),
     )
 
 pub returns : goal.returns
@@ -57,10 +55,9 @@ returns c =
     let back = call.new.out in
     let e : take n blank ≡ zeros a.count = front-zeros n 65535 blank fits blank-is ∙ ap zeros c.from-n.ensures in
     let f = front-back n 65535 blank fits blank-is back call.auto.out in
-    let l = length_back n 65535 blank fits blank-is back call.auto.out in
-    output-prints a.state (request a.clock (zeros a.count)) call.result back _ _ a.out.now _
+    let full : length a.out.now ≡ 131077 = search rules in
+    output-prints a.state (request a.clock (zeros a.count)) call.result back _ a.out.now _
     (request-lends a.clock (zeros a.count))
     (rw e at call.ensures)
-    c.number_of.ensures
-    (omega (arith, c.requires, fits))
+    (omega (arith, fits, full, length_back n 65535 blank fits blank-is back call.auto.out))
     (rw f at c.output_line.ensures)

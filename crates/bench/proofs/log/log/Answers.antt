@@ -1,57 +1,34 @@
-use mathlib.Core.Path.{◌≡◌, sym, ◌∙◌}
-use Prim.Native.Nat.{◌^◌, ◌<◌}
-use native.Mathlib.Omega.{arith}
-use lib.ListN.{length}
+use mathlib.Core.Path.{sym, ap, ◌∙◌}
 use lib.Seq.{length-take-le}
 use borrow.Author.Rules.{rules}
-use Rattle.bench.proofs.Logs.{logged_none, logged-more, logged-all, steps-fit, finishes-fit}
-use Rattle.bench.proofs.Steps.{steps-used}
+use borrow.Author.Tests.{tests}
+use Rattle.std.specs.Slice.Iter.{split_inclusive_rest}
+use Rattle.bench.proofs.Logs.{no-part, part-lines, logged_none, logged-more, logged-all, prints-fit}
 use Rattle.bench.proofs.log.log.Goals as goal
 
-pub loop-at-init : goal.loop-at-init
-loop-at-init c =
-    let a = c.args in
-    logged_none a.input.now a.out.now _ _ c.new-state.ensures (search rules)
+pub loop-text-init : goal.loop-text-init
+loop-text-init c =
+    let is = ap (λ t. split_inclusive_rest t) c.into_iter-text-iterator.ensures.into_iter_gives ∙ c.split_inclusive-text-items.ensures.rest in
+    rw is (logged_none c.args.input.now c.args.out.now _ c.new-state.ensures)
 
 pub slice_bounds-printed-end : goal.slice_bounds-printed-end
-slice_bounds-printed-end c = steps-fit c.step-o.ensures
+slice_bounds-printed-end c = prints-fit c.line-o.ensures
 
 pub slice_bounds-append-end : goal.slice_bounds-append-end
 slice_bounds-append-end c =
-    let o = c.step-o in
-    sym (length-take-le o.result.written o.new.out (steps-fit o.ensures))
+    let o = c.line-o in
+    sym (length-take-le o.result.written o.new.out (prints-fit o.ensures))
 
-pub overflow_add-at : goal.overflow_add-at
-overflow_add-at c =
-    let input-fits : length c.args.input.now < 2 ^ 64 = search rules in
-    let x = c.loop-at in
-    let used = steps-used c.args.input.now x.at _ _ _ _ _ c.step-o.ensures c.loop-at-test.true in
-    omega (arith, input-fits, used.1)
-
-pub loop-at-smaller : goal.loop-at-smaller
-loop-at-smaller c =
-    let x = c.loop-at in
-    let used = steps-used c.args.input.now x.at _ _ _ _ _ c.step-o.ensures c.loop-at-test.true in
-    omega (arith, used.0, used.1)
-
-pub loop-at-preserved : goal.loop-at-preserved
-loop-at-preserved c =
-    let x = c.loop-at in
-    logged-more c.args.input.now c.args.out.now x.out _ x.at x.stored x.invariant _ _ _ _ _ _ c.step-o.ensures c.append-stored.ensures
-
-pub slice_bounds-printed-end-2 : goal.slice_bounds-printed-end-2
-slice_bounds-printed-end-2 c = finishes-fit c.finish-n.ensures
-
-pub slice_bounds-append-end-2 : goal.slice_bounds-append-end-2
-slice_bounds-append-end-2 c =
-    let o = c.finish-n in
-    sym (length-take-le o.result o.new.out (finishes-fit o.ensures))
-
-pub shape_of-out : goal.shape_of-out
-shape_of-out c = c.append.auto.buffer ∙ c.loop-at.invariant.kept
+pub loop-text-preserved : goal.loop-text-preserved
+loop-text-preserved c =
+    let x = c.loop-text in
+    let first = part-lines _ _ x.text-iterator c.next.new.self x.yielded x.yielded_by (λ x b q k. search (rules, tests)) _ _ c.in-Some.is c.next.ensures.steps
+    c.strip_suffix.result c.strip_suffix.ensures.cases in
+    logged-more c.args.input.now c.args.out.now x.out x.state _ x.stored x.invariant _ _ _ _ _ _ _
+    (rw (← c.unwrap_or.ensures) at first) c.line-o.ensures c.append-stored.ensures
 
 pub returns : goal.returns
 returns c =
-    let x = c.loop-at in
-    let e : x.at ≡ length c.args.input.now = omega (arith, x.invariant.within, c.loop-at-test.false) in
-    logged-all c.args.input.now c.args.out.now x.out _ x.at x.stored x.invariant _ _ _ _ _ e c.finish-n.ensures c.append.ensures
+    let x = c.loop-text in
+    let none = no-part _ x.text-iterator c.next.new.self _ c.in-None.is c.next.ensures.steps in
+    logged-all c.args.input.now c.args.out.now x.out x.state _ x.stored x.invariant none

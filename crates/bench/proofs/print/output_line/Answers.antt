@@ -1,27 +1,35 @@
-use mathlib.Core.Path.{refl, sym, ap, ◌∙◌}
+use mathlib.Core.Path.{◌≡◌, refl, sym, ◌∙◌}
+use native.Mathlib.Omega.{arith}
 use lib.ListN.{length}
+use borrow.Author.Rules.{rules}
 use borrow.Author.Tests.{eqb-true, eqb-false}
-use Rattle.laws.specs.Lists.{overwrite}
-use Rattle.bench.proofs.Printing.{output-refused, output-none, output-some}
+use Rattle.std.specs.Prelude.{Ok}
+use Rattle.bench.proofs.Printing.{refused-shown, done-shown, output-none, output-some}
 use Rattle.bench.proofs.print.output_line.Goals as goal
 
-pub returns-then-number-ne0 : goal.returns-then-number-ne0
-returns-then-number-ne0 c =
-    let a = c.args in
-    let e = output-refused a.number a.emptied a.bytes.now c.if-number-ne0.true in
-    (c.number_line.ensures.0 ∙ ap length e, c.number_line.ensures.1 ∙ ap (overwrite a.out.now) e)
+pub returns-in-Err : goal.returns-in-Err
+returns-in-Err c =
+    let o = c.args.outcome.now in
+    refused-shown o.answer o.emptied c.args.bytes.now _ c.args.out.now _ _ c.in-Err.is (rw c.number.ensures at c.number_line.ensures)
 
 pub returns-then-is_empty : goal.returns-then-is_empty
 returns-then-is_empty c =
-    let a = c.args in
-    let none = eqb-true (length a.bytes.now) 0 (sym c.is_empty.ensures ∙ c.if-is_empty.true) in
-    rw (output-none a.number a.emptied a.bytes.now c.if-number-ne0.false none)
-    (refl, rw (c.decimal_digit-tens.ensures, c.decimal_digit-ones.ensures) at c.overwrite.ensures)
+    let o = c.args.outcome.now in
+    let bytes = c.args.bytes.now in
+    let done : o.answer ≡ Ok tt = search rules in
+    let none = eqb-true (length bytes) 0 (sym c.is_empty.ensures ∙ c.if-is_empty.true) in
+    done-shown o.answer o.emptied bytes _ c.args.out.now _ done
+    (rw (output-none o.emptied bytes none) (refl, rw (c.decimal_digit-tens.ensures, c.decimal_digit-ones.ensures) at c.overwrite.ensures))
 
 pub returns : goal.returns
 returns c =
-    let a = c.args in
-    let some = eqb-false (length a.bytes.now) 0 (sym c.is_empty.ensures ∙ c.if-is_empty.false) in
-    output-some a.number a.emptied a.bytes.now a.out.now _ _ c.if-number-ne0.false some c.requires.2
+    let o = c.args.outcome.now in
+    let bytes = c.args.bytes.now in
+    let done : o.answer ≡ Ok tt = search rules in
+    let some = eqb-false (length bytes) 0 (sym c.is_empty.ensures ∙ c.if-is_empty.false) in
+    let full : length c.args.out.now ≡ 131077 = search rules in
+    let long : length c.overwrite-2.new.out ≡ 131077 = search rules in
+    done-shown o.answer o.emptied bytes _ c.args.out.now _ done
+    (output-some o.emptied bytes c.args.out.now _ _ 131071 some (omega (arith, c.requires.1, full)) (omega (arith, long))
     (rw (c.decimal_digit-tens.ensures, c.decimal_digit-ones.ensures) at c.overwrite-2.ensures)
-    c.encode.ensures
+    c.encode.ensures)

@@ -1,7 +1,8 @@
 -- What a step promises of the characters that it used, and of those that it printed.
-use Rattle.std.proofs.Common.{arith, sym, ◌∙◌, length}
+use Rattle.std.proofs.Common.{arith, sym, ap, ◌∙◌, length}
 use borrow.Author.Tests.{eqb-false}
 use Rattle.std.proofs.Math.ListN.{length-take, length-drop}
+use Rattle.bench.proofs.Buffers.{length-overwrite}
 use Rattle.bench.proofs.Lines.{used-more, used-fits}
 use Rattle.bench_main.proofs.Session.feed.Goals as goal
 
@@ -20,3 +21,6 @@ loop-rest-smaller g c =
     let some = eqb-false (length rest) 0 (sym c.is_empty.ensures ∙ c.loop-rest-test.true) in
     let more = used-more rest (omega arith) in
     simp (length-take, length-drop) (omega (arith, c.step-o.ensures.used, more))
+
+pub loop-rest-preserved : goal.loop-rest-preserved
+loop-rest-preserved g c = ap (λ l. length l) c.step-o.ensures.shown ∙ length-overwrite _ _ ∙ c.loop-rest.invariant

@@ -24,11 +24,11 @@ unfolding carried_out action_number widened
 returns-in-Widen c =
     let a = c.args in
     let action = sym (c.action_of.ensures ∙ ap (action_of _) c.frame_of_text.ensures) ∙ c.in_ok-action_of.was ∙ ap Ok c.in-Widen.is in
-    line_taken a.wide a.ended a.text.now _ a.out.now _ _ _ action refl refl (rw c.rest_of.ensures at c.put-in-Widen.ensures)
+    line_taken a.wide a.ended a.text.now _ a.out.now _ _ _ action refl refl (rw c.after.ensures at c.put-in-Widen.ensures)
 
 pub returns-in-Narrow : goal.returns-in-Narrow
 unfolding carried_out action_number narrowed
 returns-in-Narrow c =
     let a = c.args in
     let action = sym (c.action_of.ensures ∙ ap (action_of _) c.frame_of_text.ensures) ∙ c.in_ok-action_of.was ∙ ap Ok c.in-Narrow.is in
-    line_taken a.wide a.ended a.text.now _ a.out.now _ _ _ action refl refl (rw c.rest_of-in-Narrow.ensures at c.put-in-Narrow.ensures)
+    line_taken a.wide a.ended a.text.now _ a.out.now _ _ _ action refl refl (rw c.after-in-Narrow.ensures at c.put-in-Narrow.ensures)
