@@ -58,17 +58,11 @@ unfolding all_zero
 found-more d at i t h l f =
     let e : max i at ≡ i = max-eq_left h in
     let e' : max (i + 1) at ≡ i + 1 = max-eq_left (omega arith) in
-<<<<<<< HEAD
-    let g : (eqb d 0 && (eqb (get_or t i 0) 0 && all_zero (drop (i + 1) t))) ≡ all_zero (drop at t) = rw (add-one i) (rw (e, drop-cons t i 0 l) at f) in
-    rw e' (ap (λ (b : Bool). b && all_zero (drop (i + 1) t)) (or-none d (get_or t i 0))
-        ∙ and_assoc (eqb d 0) (eqb (get_or t i 0) 0) (all_zero (drop (i + 1) t)) ∙ g)
-=======
     let g : (eqb d 0 && (eqb (get_or t i 0) 0 && all_zero (drop (i + 1) t))) ≡ all_zero (drop at t) =
     rw (add-one i) (rw (e, drop-cons t i 0 l) at f) in
     rw e'
     (ap (λ (b : Bool). b && all_zero (drop (i + 1) t)) (or-none d (get_or t i 0))
     ∙ and_assoc (eqb d 0) (eqb (get_or t i 0) 0) (all_zero (drop (i + 1) t)) ∙ g)
->>>>>>> 1a63e3f4c02087f7464c2f12bc92d5685416f18b
 
 -- the code's table: 63 bytes that keep no bit, then 64 that keep all
 abbrev pub mask_bytes : List ℕ

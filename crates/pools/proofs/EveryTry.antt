@@ -62,14 +62,9 @@ module _ (clock : ℕ) where
       let first : Passing s clock max_tries = passing-fewer s clock max_tries (max_tries + max_tries * p) (omega arith) room in
       every_append Passes (draw_tries (try_at clock) (suc p + 1) max_tries s) _ (draw-passes (suc p + 1) max_tries s all first)
       (split (Every Passes) d.found
-<<<<<<< HEAD
-      (λ t. shuffle-passes p (exchange (suc p) d.value list) d.effect.next (tries-pools clock (suc p + 1) max_tries s all)
-          (tries-passing clock (suc p + 1) max_tries (max_tries * p) s all room))
-=======
       (λ t.
       shuffle-passes p (exchange (suc p) d.value list) d.effect.next (tries-pools clock (suc p + 1) max_tries s all)
       (tries-passing clock (suc p + 1) max_tries (max_tries * p) s all room))
->>>>>>> 1a63e3f4c02087f7464c2f12bc92d5685416f18b
       (λ t. every-none Passes))
 
   -- a list of 0 or 1 numbers makes none
@@ -158,25 +153,15 @@ module _ (clock : ℕ) where
   shuffle-starts (suc p) list s first others e =
       let d = tries (try_at clock) (suc p + 1) max_tries s in
       let more : List Fortuna = cond d.found (shuffle_tries (try_at clock) p (exchange (suc p) d.value list) d.effect.next) [] in
-<<<<<<< HEAD
-      let quiet = split (Every Quiet) d.found (λ t. quiet-shuffle p (exchange (suc p) d.value list) d.effect.next (quiet-drawn (suc p + 1) s))
-          (λ t. every-none Quiet) in
-=======
       let quiet = split (Every Quiet) d.found
       (λ t. quiet-shuffle p (exchange (suc p) d.value list) d.effect.next (quiet-drawn (suc p + 1) s)) (λ t. every-none Quiet) in
->>>>>>> 1a63e3f4c02087f7464c2f12bc92d5685416f18b
       starts s first (later (suc p + 1) 63 s ++ more) others _
       (ap (λ (l : List Fortuna). l ++ more) (sym (first-is (suc p + 1) s)) ∙ e)
       (every_append Quiet (later (suc p + 1) 63 s) more (quiet-later (suc p + 1) 63 s) quiet)
       (first-shuffle clock p list s).0
 
-<<<<<<< HEAD
-  shuffled-emptied : (list : List ℕ) (s : Fortuna) → (shuffled (try_at clock) list s).effect.emptied
-      ≡ (shuffle_from (try_at clock) (length list - 1) list s).effect.emptied
-=======
   shuffled-emptied : (list : List ℕ) (s : Fortuna)
       → (shuffled (try_at clock) list s).effect.emptied ≡ (shuffle_from (try_at clock) (length list - 1) list s).effect.emptied
->>>>>>> 1a63e3f4c02087f7464c2f12bc92d5685416f18b
   unfolding shuffled leaving
   shuffled-emptied list s =
       let o = shuffle_from (try_at clock) (length list - 1) list s in

@@ -30,11 +30,7 @@ pub any-pool : (m : Bool) (size source pool n : ℕ) → event_number m size sou
 any-pool m size source pool n e =
     let parts = both-passed (event_input source pool n) (event_state m size n) (unfold event_number in e) in
     let known = passed (ltb max_source source) 11 (refuse (ltb (pool_count - 1) pool) 12 (refuse (eqb n 0 || ltb max_data n) 13 0)) (omega arith)
-<<<<<<< HEAD
-        (unfold event_input in parts.0) in
-=======
     (unfold event_input in parts.0) in
->>>>>>> 1a63e3f4c02087f7464c2f12bc92d5685416f18b
     let placed = passed (ltb (pool_count - 1) pool) 12 (refuse (eqb n 0 || ltb max_data n) 13 0) (omega arith) known.1 in
     let sized = passed (eqb n 0 || ltb max_data n) 13 0 (omega arith) placed.1 in
     let formed = passed m 21 (refuse (full size (gain n)) 22 0) (omega arith) (unfold event_state in parts.1) in

@@ -57,11 +57,6 @@ rest-unused n k zero h none = let e : k ≡ 0 = omega arith in rw e refl
 rest-unused n k (suc m) h none =
     ⊎_elim
     (λ (e : k ≡ suc m). rw e refl)
-<<<<<<< HEAD
-    (λ (l : k < suc m). rw (none m (le_of_suc-le-suc l) (le_refl (suc m)), append-nil)
-        (rest-unused n k m (le_of_suc-le-suc l) (λ i a b. none i a (omega arith))))
-=======
     (λ (l : k < suc m).
     rw (none m (le_of_suc-le-suc l) (le_refl (suc m)), append-nil) (rest-unused n k m (le_of_suc-le-suc l) (λ i a b. none i a (omega arith))))
->>>>>>> 1a63e3f4c02087f7464c2f12bc92d5685416f18b
     (eq-or-lt_of_le h)
