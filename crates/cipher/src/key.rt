@@ -81,6 +81,7 @@ pub fn expand_key(key: [u8; 32]) -> Schedule
 {
     let mut words = [0u8; 240];
     overwrite(&mut words, &key);
+    // Kept: (d) by index: word i is made of words before it in the same array.
     for i in 8..60 {
         let word = next_word(&words, i);
         put_word(&mut words, i, word);

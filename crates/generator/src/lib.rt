@@ -66,6 +66,7 @@ impl Generator {
     }
 
     // The answer where b blocks are to be made.
+    // Kept: (d) beside `Standing::output_answer` of pools: the same order, but other tests, which see pools and a due reseed too.
     #[tactic(auto, unfolding(crate::specs::Operations::code, crate::specs::Refusals::state_number))]
     fn output_state_answer(&self, b: u32) -> Result<(), Refusal>
         ensures { number result ≡ state_number (decode self.now) b }
