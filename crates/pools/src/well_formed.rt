@@ -1,5 +1,5 @@
 // Whether a pool is malformed (21). The check is made at every call, so it has no branch inside a pool's tail.
-ghost use Rattle.std.specs.Prelude.{◌≡◌, ◌<◌, drop, ◌==◌};
+ghost use Rattle.std.specs.Prelude.{◌≡◌, ◌<◌, drop};
 ghost use Rattle.laws.specs.Lists.{all_zero};
 ghost use Rattle.pools.specs.Pool.{malformed_pool};
 ghost use Rattle.pools.specs.State.{any_pool};
@@ -16,16 +16,16 @@ static MASKS: [u8; 127] = [
     255, 255, 255, 255, 255, 255, 255,
 ];
 
-// 0 exactly if the bytes from `at` on are zero.
-fn bits_from(tail: &[u8; 64], at: usize) -> u8
+// Whether the bytes from `at` on are zero.
+fn is_zero_from(tail: &[u8; 64], at: usize) -> bool
     requires { at < 64 }
-    ensures { (result == 0) ≡ all_zero (drop at tail.now) }
+    ensures { result ≡ all_zero (drop at tail.now) }
 {
     let mut bits = 0u8;
     for (byte, mask) in tail.iter().zip(&MASKS[63 - at..]) {
         bits |= byte & mask;
     }
-    bits
+    bits == 0
 }
 
 // Whether a pool is too long, has bytes behind its tail that are not 0, or has another running hash than the empty pool's though it is short.
@@ -34,7 +34,7 @@ fn pool_malformed(pool: &Hasher) -> bool
     ensures { result ≡ malformed_pool pool.now }
 {
     pool.length > hash::max_pool_length()
-        || bits_from(&pool.tail, (pool.length % 64) as usize) != 0
+        || !is_zero_from(&pool.tail, (pool.length % 64) as usize)
         || pool.length < 64 && pool.chain != Hasher::empty_pool().chain
 }
 

@@ -26,7 +26,7 @@ pub struct Quota {
 pub fn find(list: &[Quota], source: u32, from: usize) -> usize
     ensures { result ≡ place_from list.now source from }
 {
-    // Kept: (b) by index: with `position` over the part from `from` on an event with 64 quotas takes 5 % more instructions.
+    // Kept: (b) by index: with `position` over the part from `from` on an event with 64 rising quotas takes 5 % more instructions.
     for i in from..list.len() {
         if list[i].source == source {
             return i;

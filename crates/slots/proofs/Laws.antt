@@ -1,4 +1,4 @@
--- What the crates above use of tries, exchanges and shuffles by given draws, instead of their text.
+-- What the crates above use of tries and of shuffles by given draws, instead of their text.
 -- Assumes nothing.
 use mathlib.Core.Path.{◌≡◌, refl}
 use mathlib.Core.List.{List, [], ◌∷◌}

@@ -1,4 +1,4 @@
--- The smallest k with n ≤ 2^k, the search for it, and the bits that a try keeps.
+-- The smallest k with n ≤ 2^k, the search for it, the library's powers of two, and the bits that a try keeps.
 -- Assumes nothing.
 use mathlib.Core.Path.{◌≡◌, refl, sym, ap, ◌∙◌, subst}
 use mathlib.Core.Logic.{⊎_elim}
@@ -72,11 +72,13 @@ least-bits n h = record { enough = bits-enough n h; least = bits-least n; few = 
 
 -- ---- the same by the library's powers of two
 
+-- a search in which each place fails ends at the last
 fails-all : (t : ℕ → Bool) (f k : ℕ) → ((j : ℕ) → j < f + k → t j ≡ false) → least_from t f k ≡ f + k
 unfolding least_from
 fails-all t zero k h = sym (zero-add k)
 fails-all t (suc f) k h = rw (h k (omega arith)) (fails-all t f (suc k) (λ j l. h j (omega arith)) ∙ omega arith)
 
+-- from 2^32 on there are 32
 bits-large : (n : ℕ) → 2 ^ 32 ≤ n → bits_for n ≡ 32
 unfolding bits_for
 bits-large n h = fails-all (λ k. leb n (2 ^ k)) 32 0 (λ j l. lt-leb n (2 ^ j) (lt_of_lt_of_le (pow_below j 32 l) h))
@@ -119,6 +121,7 @@ same-exponent j k h l =
     absurd (omega arith))
     (λ u. omega (arith, ltb-false j k t, ltb-false k j u)))
 
+-- k as the library gives it: p is the least power of two for n, or for 2^32 where n is more, and k its exponent
 pub bits-by-power : (n p k : ℕ) → IsPowerOfTwo p → min n (2 ^ 32) ≤ p → p / 2 < max 1 (min n (2 ^ 32)) → 2 ^ k ≤ p → p < 2 * 2 ^ k → k ≡ bits_for n
 bits-by-power n p k (j, is) h half low high =
     let same = same-exponent j k (rw (← is) low) (rw (← is) high) in

@@ -1,7 +1,7 @@
 use Rattle.std.proofs.Common.{◌<◌, length, get_or, arith, rules, length-append}
 use Rattle.std.proofs.lemmas.Slice.Zip.{zip_turn, zip_end}
 use Rattle.pools.proofs.Bits.{masks_from, masks-enough, found_none, found_turn, found_all}
-use Rattle.pools.proofs.well_formed.bits_from.Goals as goal
+use Rattle.pools.proofs.well_formed.is_zero_from.Goals as goal
 
 pub loop-byte-init : goal.loop-byte-init
 loop-byte-init c = found_none c.args.at c.args.tail.now
