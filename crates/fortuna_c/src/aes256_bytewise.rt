@@ -1,4 +1,5 @@
 // AES-256 byte by byte: of the two ciphers the one that reads the smaller table.
+// Kept: (a) a module like aes256: C has both ciphers, each by its own names (include/fortuna.h).
 ghost use Rattle.std.specs.Prelude.{◌≡◌};
 ghost use Rattle.cipher.specs.Aes.{key_expansion, cipher_with};
 

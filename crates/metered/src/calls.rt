@@ -1,5 +1,5 @@
 // Requests, seed calls, draws and shuffles with a list of quotas: 37 by the list, and nothing spent after a pool reseed.
-// Kept: (a) calls of one shape: with the call handed to one function a request takes 10,696 bytes of stack, where include/fortuna.h says 7,936.
+// Kept: (a) calls of one shape: with one function that takes the call as a closure a request takes 10,696 bytes of stack; fortuna.h says 7,936.
 // Kept: (a) state and list side by side, here, in events and in keyed_calls: docs/decisions/forms.md, 'Calls with a list are functions'.
 ghost use Rattle.pools.specs.Calls.{request, update, write, draw, shuffle};
 ghost use Rattle.metered.specs.Metering.{MetersBytes, MetersValue};

@@ -46,6 +46,7 @@ fn turns(mut g: Generator, times: u64, out: &mut [u8]) -> Generator {
 }
 
 // Blocks (b), turns (t), as often as the bytes after the buffer's length say, or a request (r).
+// Kept: (d) rt, case, g and out side by side in three functions: a struct of them would be taken apart at each call.
 fn filled(rt: &impl Print, case: Case, g: Generator, out: &mut [u8]) -> io::Result<Generator> {
     match case.call {
         b'b' => shown(rt, g.generate_blocks(out)),
