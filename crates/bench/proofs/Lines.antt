@@ -175,7 +175,8 @@ lines-first r some = ap (lines_following []) (sym (append-nil r)) ∙ lines_afte
     go true e = rw append-nil refl
     go false e =
         let all = first-all r e in
-        rw (used_all r e, drop-length) (one_line (first_line r) (omega (arith, some, ap length all)) ∙ ap (λ (ls : List (List ℕ)). first_line r ∷ ls) (sym lines-none))
+        rw (used_all r e, drop-length)
+        (one_line (first_line r) (omega (arith, some, ap length all)) ∙ ap (λ (ls : List (List ℕ)). first_line r ∷ ls) (sym lines-none))
 
 -- a text without a line feed does not end with one
 feedless-last : (l : List ℕ) → has_line_feed l ≡ false → pointwise nat_eq (drop (length l - 1) l) (line_feed ∷ []) ≡ false
@@ -186,7 +187,8 @@ feedless-last (c ∷ d ∷ l) e =
     let k : length (c ∷ d ∷ l) - 1 ≡ suc (length (d ∷ l) - 1) = omega arith in
     rw k (feedless-last (d ∷ l) (feedless-more c (d ∷ l) e).1)
 
-module _ (r x rest : List ℕ) (i : ℕ) (cut : r ≡ x ++ rest) (size : length x ≡ min (i + 1) (length r)) (first : IsFirstMatchOrLen (λ c. eqb c line_feed) r i) where
+module _ (r x rest : List ℕ) (i : ℕ) (cut : r ≡ x ++ rest) (size : length x ≡ min (i + 1) (length r))
+    (first : IsFirstMatchOrLen (λ c. eqb c line_feed) r i) where
   place : length (first_line r) ≡ min i (length r)
   place =
       first-place r
@@ -208,7 +210,8 @@ module _ (r x rest : List ℕ) (i : ℕ) (cut : r ≡ x ++ rest) (size : length 
   -- the line itself, where it has a line feed and where it has none
   part-ended : has_line_feed r ≡ true → x ≡ first_line r ++ (line_feed ∷ [])
   part-ended t =
-      sym (take_at x rest (length x) refl) ∙ ap (take (length x)) (sym cut ∙ first_ended r t ∙ sym (append_assoc (first_line r) (line_feed ∷ []) (drop (used_by r) r)))
+      sym (take_at x rest (length x) refl)
+      ∙ ap (take (length x)) (sym cut ∙ first_ended r t ∙ sym (append_assoc (first_line r) (line_feed ∷ []) (drop (used_by r) r)))
       ∙ take_at (first_line r ++ (line_feed ∷ [])) (drop (used_by r) r) (length x) (length-append (first_line r) (line_feed ∷ []) ∙ sym (used ∙ used-ended r t))
 
   part-last : has_line_feed r ≡ false → x ≡ first_line r

@@ -95,7 +95,8 @@ module _ (emptied b : ℕ) (bytes out : List ℕ) (room : 7 + 2 * length (b ∷ 
       )
 
 -- the text is stored in the part of k characters from the seventh on
-pub output-some : (emptied : ℕ) (bytes out first part : List ℕ) (k : ℕ) → (length bytes ≡ 0 → ⊥) → 7 + 2 * length bytes ≤ length out → k ≡ length first - 6
+pub output-some : (emptied : ℕ) (bytes out first part : List ℕ) (k : ℕ) → (length bytes ≡ 0 → ⊥) → 7 + 2 * length bytes ≤ length out
+    → k ≡ length first - 6
     → first ≡ overwrite out (front emptied (space ∷ []))
     → part ≡ encode_hex bytes ++ drop (2 * length bytes) (take k (drop 6 first))
     → Shown (output_line 0 emptied bytes) (6 + 2 * length bytes + 1) out (set (take 6 first ++ (part ++ drop k (drop 6 first))) (6 + 2 * length bytes) line_feed)

@@ -68,6 +68,7 @@ fn digit_character(n: u8) -> u8
 }
 
 // The text of bytes, at the front of out.
+// Kept: (c) digits by hand: with `write!` into the buffer nothing is known of what it then holds, as with `{:02}` in number_line.
 pub(crate) fn encode(bytes: &[u8], out: &mut [u8])
     requires { 2 * length bytes.now ≤ length out.old }
     ensures { out.new ≡ encode_hex bytes.now ++ drop (2 * length bytes.now) out.old }

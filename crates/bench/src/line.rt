@@ -20,7 +20,7 @@ const MAX_OTHER_LINE: usize = 256;
 // Room for the longest line that is printed: 00, the pools emptied, 65,535 bytes, and the line feed.
 pub const MAX_OUTPUT: usize = 2 * 65535 + 7;
 
-// What a line prints that is no frame.
+// What is printed of a line that is no frame.
 const NO_FRAME: u32 = 16;
 
 // The state after a line, and how many characters the line printed.

@@ -14,12 +14,9 @@ pub fn log(input: &[u8], out: &mut [u8]) -> usize
     let mut printed = [0u8; MAX_OUTPUT];
     let mut state = Fortuna::new();
     let mut stored = 0;
-    for text in input.split_inclusive(|c| *c == b'\n') {
-        let o = line(
-            state,
-            text.strip_suffix(b"\n").unwrap_or(text),
-            &mut printed,
-        );
+    for part in input.split_inclusive(|c| *c == b'\n') {
+        let text = part.strip_suffix(b"\n").unwrap_or(part);
+        let o = line(state, text, &mut printed);
         stored = append(out, stored, &printed[..o.written]);
         state = o.next;
     }

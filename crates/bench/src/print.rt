@@ -17,6 +17,7 @@ fn decimal_digit(n: u32) -> u8
 }
 
 // A number below 100 in two decimal digits, and the line feed.
+// Kept: (c) digits by hand: with `write!` of `{:02}` into the buffer nothing is known of what it then holds.
 #[tactic(auto, unfolding(crate::specs::Lines::number_line, crate::specs::Hexadecimal::decimal))]
 pub(crate) fn number_line(number: u32, out: &mut [u8; MAX_OUTPUT]) -> usize
     requires { number < 100 }

@@ -31,6 +31,7 @@ pub struct Outcome {
 
 impl Outcome {
     // The number of the refused line, from 1, or 0 where none was refused.
+    // Kept: (a) 0 for none, and no Option: the clause, by `refused_line`, says 0, as C has it (fortuna_conversion).
     pub fn line(self) -> usize
         ensures { result ≡ refused_line self.answer }
     {
