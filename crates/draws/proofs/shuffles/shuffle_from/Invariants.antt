@@ -11,5 +11,5 @@ invariant-loop-p l = record {
   emptied : l.emptied ≤ 2048 * (length l.initial.order - l.p);
   ready : Ready l.state l.clock (max_tries * (l.p - 1));
   left : LeftList (shuffle_from (try_at l.clock) (length l.initial.order - 1) l.initial.order l.initial.state) l.emptied
-         (shuffle_from (try_at l.clock) (l.p - 1) l.order l.state);
+      (shuffle_from (try_at l.clock) (l.p - 1) l.order l.state);
 }
