@@ -2,10 +2,11 @@
 """Counts the places of docs/DESIGN-PASS.md in src/, as they stand at a commit or in the working tree.
 
     tools/places.py [COMMIT] [--list]
+    tools/places.py --kept
 
 Each point has patterns over the lines of crates/*/src/*.rt; what a pattern finds is a place to look at, not always one to change. With
 --list each place is printed. Point 2 also lists names of functions and public structs that stand in more than one crate, point 5 facts
-and parameters that stand in three contracts or more, point 8 counts proof files."""
+and parameters that stand in three contracts or more, point 8 counts proof files. --kept prints the lines 'Kept:' as the page's table."""
 import re
 import subprocess
 import sys
@@ -46,7 +47,16 @@ def files(commit):
     return text
 
 
+def kept(text):
+    """The rows of what stays as it is, by the lines beside it."""
+    for name, lines in sorted(text.items()):
+        for reason in re.findall(r"(?://|--) Kept: (.*)", lines):
+            print(f"| `{name.removeprefix('crates/').removesuffix('.rt').replace('/src/', '/')}` | {reason.rstrip('.')} |")
+
+
 def main():
+    if "--kept" in sys.argv:
+        return kept(files(None))
     args = [a for a in sys.argv[1:] if not a.startswith("-")]
     show = "--list" in sys.argv
     text = files(args[0] if args else None)
@@ -79,4 +89,5 @@ def main():
     print(f"8 answer and invariant files: {len(proofs)}; lemma files: {len(lemmas)}")
 
 
-main()
+if __name__ == "__main__":
+    main()
