@@ -7,7 +7,7 @@ ghost use Rattle.quotas.specs.Charges.{charge_number, charge_list};
 ghost use Rattle.metered.specs.Metering.{gate_number, known_of, cost_of};
 
 use laws::{Numbered, number_of};
-use pools::{Outcome, Refusal};
+use pools::{HEADER, MAX_DATA, Outcome, Refusal};
 use quotas::Quota;
 
 // What refuses a call because its list is malformed: the answer by its input alone, or 37.
@@ -36,11 +36,6 @@ pub(crate) fn refused<S>(state: S, refusal: Refusal) -> Outcome<S>
 // The least number of a refusal by the state: the input's numbers of an event are below it.
 // Kept: (d) by number, as the rule is: a pattern in its place would list the five refusals below 21.
 const FIRST_BY_STATE: u32 = 21;
-
-// The most data of an event, and the bytes before them in a pool.
-const MAX_DATA: usize = 32;
-
-const HEADER: usize = 3;
 
 // An event's answer without 38 and 39: its own where its input refuses it, else what refuses the list, else its own.
 fn known_answer(own: Result<(), Refusal>, checked: Result<(), Refusal>) -> Result<(), Refusal>

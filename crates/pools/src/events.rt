@@ -9,9 +9,10 @@ use crate::refusals::event_answer;
 use hash::Hasher;
 
 // The bytes before the data: two of the source, least significant first, and the length.
-pub(crate) const HEADER: usize = 3;
+pub const HEADER: usize = 3;
 
-pub(crate) const MAX_DATA: usize = 32;
+// The most data of an event.
+pub const MAX_DATA: usize = 32;
 
 // The pool after an event: header and data in one part.
 #[tactic(auto, unfolding(crate::specs::Events::max_source, crate::specs::Events::max_data))]

@@ -17,7 +17,7 @@ ghost use Rattle.pools.specs.Collected.{Reseedable, Servable, standing};
 ghost use Rattle.pools.specs.Promises.{number, Gives, GivesBytes, Gains};
 
 use events::gained;
-pub use events::gained_pool;
+pub use events::{HEADER, MAX_DATA, gained_pool};
 use generator::Generator;
 use hash::Hasher;
 pub use refusal::Refusal;
