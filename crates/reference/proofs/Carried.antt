@@ -41,7 +41,7 @@ module _ {S : Type 0} where
     pub place-one : (p : ℕ) (list : List ℕ) (s : S)
         → shuffle_from serve (suc p) list s
         ≡ one_place list (tries serve (suc p + 1) max_tries s)
-            (shuffle_from serve p (exchange (suc p) (tries serve (suc p + 1) max_tries s).value list) (tries serve (suc p + 1) max_tries s).effect.next)
+        (shuffle_from serve p (exchange (suc p) (tries serve (suc p + 1) max_tries s).value list) (tries serve (suc p + 1) max_tries s).effect.next)
     unfolding shuffle_from one_place
     place-one p list s = refl
 

@@ -75,7 +75,7 @@ module _ (clock : ℕ) where
   pub tries-agree : (n d : ℕ) (b : Reference) → Ready b d → Agreed (tries (try_at clock) n d (concrete b)) (tries (reference_try clock) n d b)
   tries-agree n d b r =
       let a = tries-follow concrete concrete_effect concrete-carries (reference_try clock) (try_at clock) Ready follows n d 0 b
-          (ready-fewer b (d + 0) d (omega arith) r) in
+      (ready-fewer b (d + 0) d (omega arith) r) in
       (a.0, a.1.sound)
 
   kept-sound : (list : List ℕ) (o : Drawn Reference) → Sound o.effect.next → Sound (kept_list list o).effect.next

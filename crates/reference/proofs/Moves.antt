@@ -113,12 +113,12 @@ module _ (clock : ℕ) where
 
   pub draw-first : (n d : ℕ) (b : Reference) →
       Moved b (due_at b clock) clock (tries (reference_try clock) n (suc d) b).effect.next
-          × ((tries (reference_try clock) n (suc d) b).effect.emptied ≡ reference_count b clock)
+      × ((tries (reference_try clock) n (suc d) b).effect.emptied ≡ reference_count b clock)
   unfolding First
   draw-first n d b = let f = begun-tries (reference_try clock) Still still First first n d b in (f.0, f.2)
 
   pub shuffle-first : (list : List ℕ) (b : Reference) → 1 < length list →
       Moved b (due_at b clock) clock (shuffled (reference_try clock) list b).effect.next
-          × ((shuffled (reference_try clock) list b).effect.emptied ≡ reference_count b clock)
+      × ((shuffled (reference_try clock) list b).effect.emptied ≡ reference_count b clock)
   unfolding First
   shuffle-first list b h = let f = begun-shuffled (reference_try clock) Still still First first list b h in (f.0, f.2)

@@ -30,7 +30,7 @@ pub request-alone : (b : Reference) (clock n : ℕ) → served n (reference_rese
 unfolding alone reference_request served requested_state
 request-alone b clock n =
     ap (λ (made : Generated). record { emptied = 0; buffer = made.bytes; next = made.next; trace = made.trace })
-        (random-data-closed (reference_reseed_if_due b clock).generator n)
+    (random-data-closed (reference_reseed_if_due b clock).generator n)
 
 module _ (clock : ℕ) where
   -- no reseed is due at the reading
