@@ -7,7 +7,7 @@ use ctr_drbg::{CtrDrbg, Outcome};
 use laws::number_of;
 
 // Stores the state that a call leaves, and gives the answer's number.
-fn left(o: Outcome, state: &mut CtrDrbg) -> u32
+fn stored(o: Outcome, state: &mut CtrDrbg) -> u32
     ensures { (result ≡ number o.answer) × (state.new ≡ o.next) }
 {
     *state = o.next;
@@ -29,7 +29,7 @@ pub extern "C" fn fortuna_ctr_drbg_instantiate(
 ) -> u32
     ensures { LeavesInstantiated state.old entropy.now personalization.now result state.new }
 {
-    left(state.instantiate(entropy, personalization), state)
+    stored(state.instantiate(entropy, personalization), state)
 }
 
 #[unsafe(no_mangle)]
@@ -40,7 +40,7 @@ pub extern "C" fn fortuna_ctr_drbg_reseed(
 ) -> u32
     ensures { LeavesReseeded state.old entropy.now additional.now result state.new }
 {
-    left(state.reseed(entropy, additional), state)
+    stored(state.reseed(entropy, additional), state)
 }
 
 #[unsafe(no_mangle)]
@@ -51,5 +51,5 @@ pub extern "C" fn fortuna_ctr_drbg_generate(
 ) -> u32
     ensures { LeavesGenerated state.old out.old additional.now result state.new out.new }
 {
-    left(state.generate(out, additional), state)
+    stored(state.generate(out, additional), state)
 }

@@ -14,12 +14,14 @@ pub struct FortunaGeneratorOutcome {
     pub next: Generator,
 }
 
-fn exported(o: Outcome) -> FortunaGeneratorOutcome
-    ensures { (result.number ≡ number o.answer) × (result.next ≡ o.next) }
-{
-    FortunaGeneratorOutcome {
-        number: number_of(o.answer),
-        next: o.next,
+impl From<Outcome> for FortunaGeneratorOutcome {
+    ghost from_gives = { λ o r. (r.number ≡ number o.answer) × (r.next ≡ o.next) };
+
+    fn from(o: Outcome) -> FortunaGeneratorOutcome {
+        FortunaGeneratorOutcome {
+            number: number_of(o.answer),
+            next: o.next,
+        }
     }
 }
 
@@ -34,7 +36,7 @@ pub extern "C" fn fortuna_generator_new() -> Generator
 pub extern "C" fn fortuna_generator_reseed(state: Generator, seed: &[u8]) -> FortunaGeneratorOutcome
     ensures { (result.number ≡ reseed_answer state seed.now) × (result.next ≡ reseeded state seed.now) }
 {
-    exported(state.reseed(seed))
+    state.reseed(seed).into()
 }
 
 #[unsafe(no_mangle)]
@@ -44,7 +46,7 @@ pub extern "C" fn fortuna_generator_blocks(
 ) -> FortunaGeneratorOutcome
     ensures { (result.number ≡ blocks_answer state out.old) × (result.next ≡ blocks_made state out.old) × (out.new ≡ blocks_buffer state out.old) }
 {
-    exported(state.generate_blocks(out))
+    state.generate_blocks(out).into()
 }
 
 #[unsafe(no_mangle)]
@@ -54,5 +56,5 @@ pub extern "C" fn fortuna_generator_request(
 ) -> FortunaGeneratorOutcome
     ensures { (result.number ≡ request_answer state out.old) × (result.next ≡ requested state out.old) × (out.new ≡ request_buffer state out.old) }
 {
-    exported(state.pseudo_random_data(out))
+    state.pseudo_random_data(out).into()
 }

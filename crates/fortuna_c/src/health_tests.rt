@@ -17,24 +17,26 @@ pub struct FortunaHealthAnswer {
     pub place: usize,
 }
 
-#[tactic(auto, unfolding(crate::specs::HealthAnswers::place_of, crate::specs::HealthAnswers::repetition_of, crate::specs::HealthAnswers::proportion_of))]
-fn answer_of(answer: Result<Option<Failure>, Refusal>) -> FortunaHealthAnswer
-    ensures { Tells answer result }
-{
-    let number = number_of(answer);
-    match answer {
-        Ok(Some(failure)) => FortunaHealthAnswer {
-            number,
-            repetition: failure.repetition,
-            proportion: failure.proportion,
-            place: failure.place,
-        },
-        Ok(None) | Err(_) => FortunaHealthAnswer {
-            number,
-            repetition: false,
-            proportion: false,
-            place: 0,
-        },
+impl From<Result<Option<Failure>, Refusal>> for FortunaHealthAnswer {
+    ghost from_gives = { Tells };
+
+    #[tactic(auto, unfolding(crate::specs::HealthAnswers::place_of, crate::specs::HealthAnswers::repetition_of, crate::specs::HealthAnswers::proportion_of))]
+    fn from(answer: Result<Option<Failure>, Refusal>) -> FortunaHealthAnswer {
+        let number = number_of(answer);
+        match answer {
+            Ok(Some(failure)) => FortunaHealthAnswer {
+                number,
+                repetition: failure.repetition,
+                proportion: failure.proportion,
+                place: failure.place,
+            },
+            Ok(None) | Err(_) => FortunaHealthAnswer {
+                number,
+                repetition: false,
+                proportion: false,
+                place: 0,
+            },
+        }
     }
 }
 
@@ -56,5 +58,5 @@ pub extern "C" fn fortuna_health_test(
 {
     let o = state.test(samples, repetition, proportion);
     *state = o.next;
-    answer_of(o.answer)
+    o.answer.into()
 }

@@ -5,7 +5,7 @@ ghost use Rattle.keyed.specs.Scheduler.{input_pool, emptied_at};
 ghost use Rattle.keyed.specs.Calls.{event, request, update, write, step};
 ghost use Rattle.fortuna_c.specs.KeyedOutcomes.{KeyedLeaves, KeyedLeavesBytes};
 
-use crate::station::{FortunaAnswer, left};
+use crate::station::{FortunaAnswer, stored};
 use keyed::Keyed;
 
 #[unsafe(no_mangle)]
@@ -19,28 +19,28 @@ pub extern "C" fn fortuna_keyed_new(scheduler_key: &[u8; 32]) -> Keyed
 pub extern "C" fn fortuna_keyed_event(state: &mut Keyed, source: u32, data: &[u8]) -> FortunaAnswer
     ensures { KeyedLeaves (step state.old (event source «data».now)) result state.new }
 {
-    left(&state.add_event(source, data), state)
+    stored(&state.add_event(source, data), state)
 }
 
 #[unsafe(no_mangle)]
 pub extern "C" fn fortuna_keyed_request(state: &mut Keyed, out: &mut [u8]) -> FortunaAnswer
     ensures { KeyedLeavesBytes (step state.old (request out.old)) result state.new out.new }
 {
-    left(&state.random_data(out), state)
+    stored(&state.random_data(out), state)
 }
 
 #[unsafe(no_mangle)]
 pub extern "C" fn fortuna_keyed_update(state: &mut Keyed, seed: &mut [u8]) -> FortunaAnswer
     ensures { KeyedLeavesBytes (step state.old (update seed.old)) result state.new seed.new }
 {
-    left(&state.update_seed(seed), state)
+    stored(&state.update_seed(seed), state)
 }
 
 #[unsafe(no_mangle)]
 pub extern "C" fn fortuna_keyed_write(state: &mut Keyed, seed: &mut [u8]) -> FortunaAnswer
     ensures { KeyedLeavesBytes (step state.old (write seed.old)) result state.new seed.new }
 {
-    left(&state.write_seed(seed), state)
+    stored(&state.write_seed(seed), state)
 }
 
 // The pool that the event at a step goes to.

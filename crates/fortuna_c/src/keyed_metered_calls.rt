@@ -3,7 +3,7 @@
 ghost use Rattle.keyed.specs.Calls.{event, request, update, write};
 ghost use Rattle.fortuna_c.specs.KeyedOutcomes.{KeyedMeteredLeaves, KeyedMeteredLeavesBytes};
 
-use crate::station::{FortunaAnswer, left};
+use crate::station::{FortunaAnswer, stored};
 use keyed::Keyed;
 use quotas::Quota;
 
@@ -17,7 +17,7 @@ pub extern "C" fn fortuna_keyed_metered_event(
     ensures { KeyedMeteredLeaves state.old list.old (event source «data».now) result
         state.new list.new }
 {
-    left(&metered::keyed_add_event(*state, list, source, data), state)
+    stored(&metered::keyed_add_event(*state, list, source, data), state)
 }
 
 #[unsafe(no_mangle)]
@@ -29,7 +29,7 @@ pub extern "C" fn fortuna_keyed_metered_request(
     ensures { KeyedMeteredLeavesBytes state.old list.now (request out.old) result
         state.new out.new }
 {
-    left(&metered::keyed_random_data(*state, list, out), state)
+    stored(&metered::keyed_random_data(*state, list, out), state)
 }
 
 #[unsafe(no_mangle)]
@@ -41,7 +41,7 @@ pub extern "C" fn fortuna_keyed_metered_update(
     ensures { KeyedMeteredLeavesBytes state.old list.now (update seed.old) result
         state.new seed.new }
 {
-    left(&metered::keyed_update_seed(*state, list, seed), state)
+    stored(&metered::keyed_update_seed(*state, list, seed), state)
 }
 
 #[unsafe(no_mangle)]
@@ -53,5 +53,5 @@ pub extern "C" fn fortuna_keyed_metered_write(
     ensures { KeyedMeteredLeavesBytes state.old list.now (write seed.old) result
         state.new seed.new }
 {
-    left(&metered::keyed_write_seed(*state, list, seed), state)
+    stored(&metered::keyed_write_seed(*state, list, seed), state)
 }

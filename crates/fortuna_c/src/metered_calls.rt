@@ -2,8 +2,8 @@
 ghost use Rattle.pools.specs.Calls.{event, request, update, write, draw, shuffle};
 ghost use Rattle.fortuna_c.specs.Outcomes.{MeteredLeaves, MeteredLeavesBytes, MeteredLeavesValue};
 
-use crate::slot_draws::{FortunaDraw, draw_left};
-use crate::station::{FortunaAnswer, left, put_pool};
+use crate::slot_draws::{FortunaDraw, draw_stored};
+use crate::station::{FortunaAnswer, stored, put_pool};
 use laws::number_of;
 use pools::Fortuna;
 use quotas::Quota;
@@ -19,7 +19,7 @@ pub extern "C" fn fortuna_metered_event(
     ensures { MeteredLeaves state.old list.old (event source pool «data».now) result
         state.new list.new }
 {
-    let gain = metered::gain_of(*state, list, source, pool, data);
+    let gain = metered::gain_of(state, list, source, pool, data);
     put_pool(state, gain.place, gain.pool);
     number_of(gain.answer)
 }
@@ -34,7 +34,7 @@ pub extern "C" fn fortuna_metered_request(
     ensures { MeteredLeavesBytes state.old list.old (request clock out.old) result
         state.new list.new out.new }
 {
-    left(&metered::random_data(*state, list, clock, out), state)
+    stored(&metered::random_data(*state, list, clock, out), state)
 }
 
 #[unsafe(no_mangle)]
@@ -47,7 +47,7 @@ pub extern "C" fn fortuna_metered_update(
     ensures { MeteredLeavesBytes state.old list.old (update clock seed.old) result
         state.new list.new seed.new }
 {
-    left(&metered::update_seed(*state, list, clock, seed), state)
+    stored(&metered::update_seed(*state, list, clock, seed), state)
 }
 
 #[unsafe(no_mangle)]
@@ -60,7 +60,7 @@ pub extern "C" fn fortuna_metered_write(
     ensures { MeteredLeavesBytes state.old list.old (write clock seed.old) result
         state.new list.new seed.new }
 {
-    left(&metered::write_seed(*state, list, clock, seed), state)
+    stored(&metered::write_seed(*state, list, clock, seed), state)
 }
 
 #[unsafe(no_mangle)]
@@ -73,7 +73,7 @@ pub extern "C" fn fortuna_metered_random_below(
 ) -> FortunaDraw
     ensures { MeteredLeavesValue state.old list.old (draw clock n tries) result state.new list.new }
 {
-    draw_left(&metered::random_below(*state, list, clock, n, tries), state)
+    draw_stored(&metered::random_below(*state, list, clock, n, tries), state)
 }
 
 #[unsafe(no_mangle)]
@@ -86,5 +86,5 @@ pub extern "C" fn fortuna_metered_shuffle(
     ensures { MeteredLeavesBytes state.old list.old (shuffle clock numbers.old) result
         state.new list.new numbers.new }
 {
-    left(&metered::shuffle(*state, list, clock, numbers), state)
+    stored(&metered::shuffle(*state, list, clock, numbers), state)
 }

@@ -21,6 +21,7 @@ pub struct FortunaEntry {
 }
 
 // An answer as C takes it.
+// Kept: (d) no From: what C is told has the place asked for too, which no answer holds.
 #[tactic(auto, unfolding(crate::specs::PoolStrings::entry_of))]
 fn entry_of(answer: Result<Option<Entry>, NoEvent>, place: usize) -> FortunaEntry
     ensures { result ≡ entry_of place answer }

@@ -4,7 +4,7 @@ ghost use Rattle.pools.specs.Promises.{number, value_of};
 ghost use Rattle.pools.specs.Calls.{draw, shuffle, step};
 ghost use Rattle.fortuna_c.specs.Outcomes.{LeavesBytes, LeavesValue};
 
-use crate::station::{FortunaAnswer, left};
+use crate::station::{FortunaAnswer, stored};
 use draws::Draw;
 use laws::number_of;
 use pools::Fortuna;
@@ -20,7 +20,7 @@ pub struct FortunaDraw {
 }
 
 // Stores the state that a draw leaves, and says what C is told of it.
-pub(crate) fn draw_left(d: &Draw, state: &mut Fortuna) -> FortunaDraw
+pub(crate) fn draw_stored(d: &Draw, state: &mut Fortuna) -> FortunaDraw
     ensures { (result.number ≡ number d.now.answer) × (result.emptied ≡ d.now.emptied) × (result.value ≡ value_of d.now.answer)
         × (state.new ≡ d.now.next) }
 {
@@ -41,7 +41,7 @@ pub extern "C" fn fortuna_random_below(
 ) -> FortunaDraw
     ensures { LeavesValue (step state.old (draw clock n tries)) result state.new }
 {
-    draw_left(&draws::random_below(*state, clock, n, tries), state)
+    draw_stored(&draws::random_below(*state, clock, n, tries), state)
 }
 
 #[unsafe(no_mangle)]
@@ -52,5 +52,5 @@ pub extern "C" fn fortuna_shuffle(
 ) -> FortunaAnswer
     ensures { LeavesBytes (step state.old (shuffle clock list.old)) result state.new list.new }
 {
-    left(&draws::shuffle(*state, clock, list), state)
+    stored(&draws::shuffle(*state, clock, list), state)
 }

@@ -27,7 +27,7 @@ pub(crate) fn put_pool(state: &mut Fortuna, place: usize, pool: Hasher)
 }
 
 // Stores the state that a call leaves, of either scheduler, and says what C is told of the call.
-pub(crate) fn left<S: Copy>(o: &Outcome<S>, state: &mut S) -> FortunaAnswer
+pub(crate) fn stored<S: Copy>(o: &Outcome<S>, state: &mut S) -> FortunaAnswer
     ensures { (result.number ≡ number o.now.answer) × (result.emptied ≡ o.now.emptied) × (state.new ≡ o.now.next) }
 {
     *state = o.next;
@@ -57,19 +57,19 @@ pub extern "C" fn fortuna_event(state: &mut Fortuna, source: u32, pool: u32, dat
 pub extern "C" fn fortuna_request(state: &mut Fortuna, clock: u32, out: &mut [u8]) -> FortunaAnswer
     ensures { LeavesBytes (step state.old (request clock out.old)) result state.new out.new }
 {
-    left(&state.random_data(clock, out), state)
+    stored(&state.random_data(clock, out), state)
 }
 
 #[unsafe(no_mangle)]
 pub extern "C" fn fortuna_update(state: &mut Fortuna, clock: u32, seed: &mut [u8]) -> FortunaAnswer
     ensures { LeavesBytes (step state.old (update clock seed.old)) result state.new seed.new }
 {
-    left(&state.update_seed(clock, seed), state)
+    stored(&state.update_seed(clock, seed), state)
 }
 
 #[unsafe(no_mangle)]
 pub extern "C" fn fortuna_write(state: &mut Fortuna, clock: u32, seed: &mut [u8]) -> FortunaAnswer
     ensures { LeavesBytes (step state.old (write clock seed.old)) result state.new seed.new }
 {
-    left(&state.write_seed(clock, seed), state)
+    stored(&state.write_seed(clock, seed), state)
 }

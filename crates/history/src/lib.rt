@@ -8,6 +8,7 @@ ghost use Rattle.std.specs.Prelude.{◌≡◌, ◌+◌, ◌≤◌, cond, length,
 ghost use Rattle.history.specs.Reader.{source_at, length_at, whole_at, data_at, entry_at};
 
 pub use found::{Entry, NoEvent};
+use pools::{HEADER, MAX_DATA};
 
 // The source in two bytes, least significant first.
 #[tactic(auto, unfolding(crate::specs::Reader::source_at))]
@@ -25,11 +26,11 @@ fn size_at(string: &[u8], place: usize) -> Option<usize>
     ensures room { IfSome result (λ n. place + 3 + n ≤ length string.now) }
 {
     let total = string.len();
-    if total < 4 || total - 4 < place {
+    if total <= HEADER || total - HEADER <= place {
         return None;
     }
     let size = usize::from(string[place + 2]);
-    if size == 0 || 32 < size || total - 3 - place < size {
+    if size == 0 || MAX_DATA < size || total - HEADER - place < size {
         return None;
     }
     Some(size)
@@ -46,8 +47,8 @@ pub fn entry_at(string: &[u8], place: usize) -> Result<Option<Entry>, NoEvent>
     let size = size_at(string, place).ok_or(NoEvent { place })?;
     Ok(Some(Entry {
         source: source_at(string, place),
-        from: place + 3,
-        next: place + 3 + size,
+        from: place + HEADER,
+        next: place + HEADER + size,
     }))
 }
 
@@ -60,7 +61,7 @@ pub fn data_at(string: &[u8], place: usize) -> &[u8]
     let Some(size) = size_at(string, place) else {
         return &string[..0];
     };
-    let from = place + 3;
+    let from = place + HEADER;
     let next = from + size;
     &string[from..next]
 }

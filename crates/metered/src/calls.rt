@@ -1,5 +1,5 @@
 // Requests, seed calls, draws and shuffles with a list of quotas: 37 by the list, and nothing spent after a pool reseed.
-// Kept: (a) calls of one shape: with one function that takes the call as a closure a request takes 10,696 bytes of stack; fortuna.h says 7,936.
+// Kept: (a) fixed memory: by one function that takes the call as a closure a request takes 10,696 bytes of stack; as it stands 7,320.
 // Kept: (a) state and list side by side, here, in events and in keyed_calls: docs/decisions/forms.md, 'Calls with a list are functions'.
 ghost use Rattle.pools.specs.Calls.{request, update, write, draw, shuffle};
 ghost use Rattle.metered.specs.Metering.{MetersBytes, MetersValue};
@@ -83,7 +83,7 @@ pub fn random_below(state: Fortuna, list: &mut [Quota], clock: u32, n: u64, d: u
 {
     let draw = match gate(list, pools::draw_input(n, d)) {
         Ok(()) => draws::random_below(state, clock, n, d),
-        // Kept: (d) by hand, here and in draws alone: a Draw is no Outcome, so `refused` can't make it.
+        // Kept: (d) by hand, here and in draws alone: a Draw is no Outcome; a function for it would have these three fields as its clause.
         Err(refusal) => Draw {
             answer: Err(refusal),
             emptied: 0,

@@ -7,8 +7,8 @@ use pools::{Fortuna, Gain, Outcome};
 use quotas::Quota;
 
 // What an event comes to: its answer, and the one pool to store.
-pub fn gain_of(state: Fortuna, list: &mut [Quota], source: u32, pool: u32, data: &[u8]) -> Gain
-    ensures { MetersGain state list.old source pool «data».now result list.new }
+pub fn gain_of(state: &Fortuna, list: &mut [Quota], source: u32, pool: u32, data: &[u8]) -> Gain
+    ensures { MetersGain state.now list.old source pool «data».now result list.new }
 {
     let gain = state.gain_of(source, pool, data);
     let answer = charge(list, source, data.len(), gain.answer);
@@ -33,7 +33,7 @@ pub fn add_event(
 ) -> Outcome<Fortuna>
     ensures { Meters state list.old (event source pool «data».now) result list.new }
 {
-    let gain = gain_of(state, list, source, pool, data);
+    let gain = gain_of(&state, list, source, pool, data);
     state.pools[gain.place] = gain.pool;
     Outcome {
         answer: gain.answer,

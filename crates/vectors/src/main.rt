@@ -33,7 +33,7 @@ struct Held {
 }
 
 // The fewest bytes that a line's letters ask for, where they name a call.
-// Kept: (d) calls are the letters of the lines: an enum would say each a second time, where `b'e' => ..` reads as the line does.
+// Kept: (d) calls are the letters of the lines, here, in ciphers, generators and hashes: an enum would say each a second time.
 fn least(letter: u8, call: u8) -> Option<usize> {
     match (letter, call) {
         (b'h', b's' | b'd' | b'f' | b'p' | b'A' | b'F' | b'P') => Some(0),

@@ -9,7 +9,7 @@ pub returns-then-is_ok : goal.returns-then-is_ok
 returns-then-is_ok c =
     let a = c.args in
     let told = c.charge-answer in
-    metered-done a.state a.list.now a.source a.pool a.«data».now c.gain_of-gain.result _ _ c.gain_of-gain.ensures told.ensures.answer told.ensures.list
+    metered-done a.state.now a.list.now a.source a.pool a.«data».now c.gain_of-gain.result _ _ c.gain_of-gain.ensures told.ensures.answer told.ensures.list
     (done-number told.result c.if-is_ok.ensures.value)
 
 pub bounds-state-gain : goal.bounds-state-gain
@@ -20,5 +20,5 @@ unfolding pool_at
 returns c =
     let a = c.args in
     let told = c.charge-answer in
-    metered-refused a.state a.list.now a.source a.pool a.«data».now c.gain_of-gain.result _ _ c.gain_of-gain.ensures told.ensures.answer told.ensures.list
+    metered-refused a.state.now a.list.now a.source a.pool a.«data».now c.gain_of-gain.result _ _ c.gain_of-gain.ensures told.ensures.answer told.ensures.list
     told.result _ (refused-number told.result c.if-is_ok.ensures.value) refl refl
