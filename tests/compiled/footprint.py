@@ -4,7 +4,7 @@
     tests/compiled/footprint.py ARCHIVE      a line for each function; exits 1 where something said is not so
 
 Each exported function has a bound in the header's table, and needs no more stack than that (tests/compiled/stack.c, on
-x86-64). The library calls memcpy and memset and nothing else, has no variables, and runs at any address."""
+x86-64). The library calls memcpy, memmove and memset and nothing else, has no variables, and runs at any address."""
 import re
 import subprocess
 import sys

@@ -1,4 +1,4 @@
-// The four calls, on a state that the caller lends. A state is 3.4 KB, and each copy of it costs some 420 instructions.
+// The station's calls, on a state that the caller lends. A state is 3.4 KB, and a copy of it takes some 420 instructions (docs/BENCHMARKS.md).
 ghost use Rattle.std.specs.Prelude.{◌≡◌, ◌<◌};
 ghost use Rattle.pools.specs.Promises.{number};
 ghost use Rattle.pools.specs.State.{fresh};
