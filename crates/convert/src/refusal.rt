@@ -6,9 +6,9 @@ use laws::Numbered;
 // It is no frame; its source is too large for frame 01; there is no room for it.
 #[derive(Clone, Copy)]
 pub enum Refusal {
-    NoFrame,
-    LargeSource,
-    NoRoom,
+    NoFrame = 16,
+    LargeSource = 43,
+    NoRoom = 46,
 }
 
 impl Numbered for Refusal {
@@ -17,10 +17,6 @@ impl Numbered for Refusal {
     ghost above_0 = { code-above-0 };
 
     fn number(self) -> u32 {
-        match self {
-            Refusal::NoFrame => 16,
-            Refusal::LargeSource => 43,
-            Refusal::NoRoom => 46,
-        }
+        self as u32
     }
 }
