@@ -19,6 +19,7 @@ pub extern "C" fn fortuna_metered_event(
     ensures { MeteredLeaves state.old list.old (event source pool «data».now) result
         state.new list.new }
 {
+    // Kept: (d) stored as in fortuna_event: one function for these two lines would be handed the state, the gain and that its place is below 32.
     let gain = metered::gain_of(state, list, source, pool, data);
     put_pool(state, gain.place, gain.pool);
     number_of(gain.answer)

@@ -15,6 +15,7 @@ fn masked(mut block: [u8; 16], mask: &[u8]) -> [u8; 16] {
 
 // Byte by byte: a block under the key (e), 4 bytes of the expanded key from a place on (w), a block under the expanded key with a mask
 // added (x).
+// Kept: (d) beside `by_tables`: their schedules are of two types, and each of the calls is another function.
 fn bytewise(rt: &impl Print, case: Case, key: [u8; 32], block: [u8; 16]) -> io::Result<()> {
     let schedule = cipher::expand_key(key);
     match case.call {

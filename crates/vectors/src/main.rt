@@ -83,6 +83,7 @@ fn called(rt: &impl Print, case: Case, held: Held, out: &mut [u8; ROOM]) -> io::
 }
 
 // What a line leaves, when it is done.
+// Kept: (d) rt, held and out side by side, here and in what this calls: a struct of them would be taken apart at each call.
 fn done(rt: &impl Print, line: &[u8], held: Held, out: &mut [u8; ROOM]) -> io::Result<Held> {
     if let [letter, call, b' ', fields @ ..] = line {
         let mut bytes = [0u8; MOST];

@@ -1,6 +1,7 @@
 // Bytes from hexadecimal text, and numbers from bytes.
 
 // What a digit stands for, if it is one.
+// Kept: (d) beside bench's digits, which are capitals: here they are small letters.
 fn digit(c: u8) -> Option<u8> {
     match c {
         b'0'..=b'9' => Some(c - b'0'),
