@@ -25,7 +25,6 @@ const NO_FRAME: u32 = 16;
 
 // The state after a line, and how many characters the line printed.
 // Kept: (a) `next` beside `written`: the project's form, by which a call takes the state and gives the next one back.
-#[repr(C)]
 #[derive(Clone, Copy)]
 pub struct LineOutcome {
     pub next: Fortuna,
@@ -51,6 +50,7 @@ fn is_readable(text: &[u8]) -> bool
 }
 
 // The frame that a line of text is, without its line feed.
+// Kept: (d) `line` decodes likewise: a helper would give back an array that both still cut to its length, and so saves a line of each.
 pub fn frame_of_text(text: &[u8]) -> Option<Frame>
     ensures { result ≡ frame_of_text text.now }
 {
@@ -63,6 +63,7 @@ pub fn frame_of_text(text: &[u8]) -> Option<Frame>
 }
 
 // No frame: no call is made.
+// Kept: (d) state and out side by side in seven functions: a struct of them would be made for one call and taken apart in it.
 fn invalid_line(state: Fortuna, out: &mut [u8; MAX_OUTPUT]) -> LineOutcome
     ensures { Prints (executed state None) result out.old out.new }
 {
@@ -88,6 +89,7 @@ fn event_line(
     }
 }
 
+// Kept: (d) this, update_line and write_line end alike: a helper for that, with its contract, is longer than what it saves.
 fn request_line(state: Fortuna, clock: u32, count: u16, out: &mut [u8; MAX_OUTPUT]) -> LineOutcome
     ensures { Prints (executed state (Some (request clock (zeros count)))) result out.old out.new }
 {
