@@ -1,8 +1,9 @@
 // One line: which frame it is, and what it does on a Fortuna state.
-ghost use Rattle.std.specs.Prelude.{◌≡◌, ◌≤◌, length, Some, None};
+ghost use Rattle.std.specs.Prelude.{◌≡◌, ◌≤◌, length, true, false, Some, None, IfSome, IfNone};
 ghost use Rattle.pools.specs.Calls.{event, request, update, write};
 ghost use Rattle.pools.specs.Refusals.{seed_size};
 ghost use Rattle.bench.specs.Frames.{max_line, frame_of, frame_of_text, is_readable};
+ghost use Rattle.bench.specs.Hexadecimal.{decode_hex};
 ghost use Rattle.bench.specs.Buffers.{zeros};
 ghost use Rattle.bench.specs.Lines.{call_of, executed, line_of, Prints};
 
@@ -49,17 +50,24 @@ fn is_readable(text: &[u8]) -> bool
     text.len() <= max_line(text) && is_hex(text)
 }
 
-// The frame that a line of text is, without its line feed.
-// Kept: (d) `line` decodes likewise: a helper would give back an array that both still cut to its length, and so saves a line of each.
-pub fn frame_of_text(text: &[u8]) -> Option<Frame>
-    ensures { result ≡ frame_of_text text.now }
+// The bytes that a line's characters stand for, in the buffer, if they stand for any.
+fn line_bytes<'a>(text: &[u8], buffer: &'a mut [u8; MAX_WIDE_LINE / 2]) -> Option<&'a mut [u8]>
+    ensures some { IfSome result (λ bytes. (is_readable text.now ≡ true) × (bytes.now ≡ decode_hex text.now)) }
+    ensures none { IfNone result (is_readable text.now ≡ false) }
 {
     if !is_readable(text) {
         return None;
     }
-    let mut bytes = [0u8; MAX_WIDE_LINE / 2];
-    decode(text, &mut bytes);
-    parse(&bytes[..text.len() / 2])
+    decode(text, buffer);
+    Some(&mut buffer[..text.len() / 2])
+}
+
+// The frame that a line of text is, without its line feed.
+pub fn frame_of_text(text: &[u8]) -> Option<Frame>
+    ensures { result ≡ frame_of_text text.now }
+{
+    let mut buffer = [0u8; MAX_WIDE_LINE / 2];
+    parse(line_bytes(text, &mut buffer)?)
 }
 
 // No frame: no call is made.
@@ -150,10 +158,9 @@ fn execute(state: Fortuna, bytes: &mut [u8], out: &mut [u8; MAX_OUTPUT]) -> Line
 pub fn line(state: Fortuna, text: &[u8], out: &mut [u8; MAX_OUTPUT]) -> LineOutcome
     ensures { Prints (line_of state text.now) result out.old out.new }
 {
-    if !is_readable(text) {
-        return invalid_line(state, out);
+    let mut buffer = [0u8; MAX_WIDE_LINE / 2];
+    match line_bytes(text, &mut buffer) {
+        Some(bytes) => execute(state, bytes, out),
+        None => invalid_line(state, out),
     }
-    let mut bytes = [0u8; MAX_WIDE_LINE / 2];
-    decode(text, &mut bytes);
-    execute(state, &mut bytes[..text.len() / 2], out)
 }
