@@ -8,7 +8,7 @@ use native.Mathlib.Omega.{arith}
 use native.Mathlib.Numerals.{add-one}
 use lib.Dec.{leb, ltb}
 use lib.ListN.{length, take, drop, get_or, set, length-drop, length-set, take-append-drop}
-use lib.Seq.{drop-cons, append_snoc, take-suc-set, drop-set-lt, drop-drop, drop-length, take_at, get_or-take, get_or-drop}
+use lib.Seq.{drop-cons, append_snoc, take-suc-set, drop-set-lt, drop-drop, drop-length, get_or-take, get_or-drop}
 use borrow.Author.Tests.{leb-true, ltb-true, ltb-false}
 use Rattle.std.specs.List.{fold}
 use Rattle.std.specs.Simd.{first_chunks}
@@ -167,10 +167,6 @@ decoded-all text out₀ out i (l, front, back) e =
     let z : decode_hex (drop (2 * i) text) ≡ [] = decode-end (drop (2 * i) text) (rw length-drop (omega arith)) in
     let f : take i out ≡ decode_hex text = sym (append-nil (take i out)) ∙ (rw z at front) in
     sym (take-append-drop i out) ∙ rw (f, back, e)
-
--- the bytes in front
-pub decoded-front : (text bytes rest : List ℕ) → bytes ≡ decode_hex text ++ rest → take (length text / 2) bytes ≡ decode_hex text
-decoded-front text bytes rest e = rw e (take_at (decode_hex text) rest (length text / 2) (length-decode text))
 
 -- ---- the loop that encodes
 

@@ -14,8 +14,9 @@ use Rattle.laws.proofs.Cases.{by-test}
 use Rattle.pools.specs.declared.Fortuna.{Fortuna}
 use Rattle.bench.specs.Frames.{max_wide_line}
 use Rattle.bench.specs.Lines.{LineEffect, line_feed, line_of}
-use Rattle.bench.specs.Input.{final_line, lines_following, lines, printed_from, transcript, first_line, has_line_feed, used_by, Session, held_line, extended, ended, step_session, step_printed, finish_printed, chunk_session, chunk_printed, chunks_printed, start}
+use Rattle.bench.specs.Input.{final_line, lines_following, lines, printed_from, transcript, first_line, has_line_feed, used_by, held_line, extended, ended, step_session, step_printed, finish_printed, chunk_session, chunk_printed, chunks_printed, start}
 use Rattle.bench.specs.Statements.{ChunksLaw}
+use Rattle.bench.specs.declared.input.Session.{Session}
 use Rattle.bench.proofs.Texts.{cut_line}
 use Rattle.bench.proofs.Buffers.{length-zeros, length-appended, held-appended}
 use Rattle.bench.proofs.Lines.{lines_after, used_all, used-more}

@@ -11,7 +11,8 @@ use Rattle.laws.specs.Lists.{overwrite}
 use Rattle.pools.specs.declared.Fortuna.{Fortuna}
 use Rattle.bench.specs.Buffers.{appended, held_after}
 use Rattle.bench.specs.Lines.{line_of, Prints}
-use Rattle.bench.specs.Input.{final_line, printed_from, first_line, has_line_feed, Session, held_line, extended, ended, step_session, step_printed, finish_printed, session, Steps, Finishes}
+use Rattle.bench.specs.Input.{final_line, printed_from, first_line, has_line_feed, held_line, extended, ended, step_session, step_printed, finish_printed, Steps, Finishes}
+use Rattle.bench.specs.declared.input.Session.{Session}
 use Rattle.bench.specs.declared.line.LineOutcome.{LineOutcome}
 use Rattle.bench.proofs.Buffers.{overwrite-nothing}
 use Rattle.bench.proofs.Lines.{first_fits, first-front, feed-test, used_all, used-ended}
@@ -49,23 +50,27 @@ module _ (x : Session) (chunk : List ℕ) where
 
 -- ---- a step of the code: n characters stand before the line feed, and they were added to the line so far
 
-module _ (s : Fortuna) (text : List ℕ) (held : ℕ) (chunk : List ℕ) (n h : ℕ) (after : List ℕ) (count : n ≡ length (first_line chunk))
-    (added : (after ≡ appended text held (take n chunk)) × (h ≡ held_after text held (take n chunk))) where
+-- a session by its parts
+abbrev session : Fortuna → List ℕ → ℕ → Session
+session s text held = record { state = s; text = text; held = held }
+
+module _ (x : Session) (chunk : List ℕ) (n h : ℕ) (after : List ℕ) (count : n ≡ length (first_line chunk))
+    (added : (after ≡ appended x.text x.held (take n chunk)) × (h ≡ held_after x.text x.held (take n chunk))) where
   front : take n chunk ≡ first_line chunk
   front = rw count (first-front chunk)
 
-  extended-is : session s after h ≡ extended (session s text held) (first_line chunk)
+  extended-is : session x.state after h ≡ extended x (first_line chunk)
   unfolding extended
   extended-is = rw (added.0, added.1, front)
 
   -- no line feed
   pub steps_on : (out : List ℕ) → n ≡ length chunk
-      → Steps (session s text held) chunk (record { next = s; held = h; used = n; written = 0 }) after out out
+      → Steps x chunk (record { used = n; written = 0 }) (session x.state after h) out out
   steps_on out e =
       let none = feed-none chunk (sym count ∙ e) in
-      let quiet = printed-none (session s text held) chunk none in
+      let quiet = printed-none x chunk none in
       record {
-        next = extended-is ∙ sym (step-none (session s text held) chunk none);
+        next = extended-is ∙ sym (step-none x chunk none);
         used = e ∙ sym (used_all chunk none);
         written = rw quiet;
         fits = rw quiet zero-le;
@@ -74,22 +79,22 @@ module _ (s : Fortuna) (text : List ℕ) (held : ℕ) (chunk : List ℕ) (n h : 
 
   -- a line feed, and the line so far was carried out
   module _ (line out out' : List ℕ) (o : LineOutcome) (some : n ≡ length chunk → ⊥) (so_far : line ≡ take h after)
-      (p : Prints (line_of s line) o out out') where
-    same : has_line_feed chunk ≡ true → step_printed (session s text held) chunk ≡ (line_of s line).printed
+      (p : Prints (line_of x.state line) o out out') where
+    same : has_line_feed chunk ≡ true → step_printed x chunk ≡ (line_of x.state line).printed
     unfolding held_line
     same fed =
-        printed-some (session s text held) chunk fed
+        printed-some x chunk fed
         ∙ ap (λ (y : Session). (line_of y.state (held_line y)).printed) (sym extended-is)
-        ∙ ap (λ (l : List ℕ). (line_of s l).printed) (sym so_far)
+        ∙ ap (λ (l : List ℕ). (line_of x.state l).printed) (sym so_far)
 
-    next-session : has_line_feed chunk ≡ true → session o.next after 0 ≡ step_session (session s text held) chunk
+    next-session : has_line_feed chunk ≡ true → session o.next after 0 ≡ step_session x chunk
     unfolding ended held_line
     next-session fed =
-        ap (λ (q : Fortuna). session q after 0) (p.next ∙ ap (λ (l : List ℕ). (line_of s l).next) so_far)
+        ap (λ (q : Fortuna). session q after 0) (p.next ∙ ap (λ (l : List ℕ). (line_of x.state l).next) so_far)
         ∙ ap ended extended-is
-        ∙ sym (step-some (session s text held) chunk fed)
+        ∙ sym (step-some x chunk fed)
 
-    pub steps-ended : Steps (session s text held) chunk (record { next = o.next; held = 0; used = n + 1; written = o.written }) after out out'
+    pub steps-ended : Steps x chunk (record { used = n + 1; written = o.written }) (session o.next after 0) out out'
     steps-ended =
         let fed = (feed-some chunk (λ e. some (count ∙ e))).0 in
         record {
@@ -102,23 +107,23 @@ module _ (s : Fortuna) (text : List ℕ) (held : ℕ) (chunk : List ℕ) (n h : 
 
 -- ---- the end of the input
 
-pub finishes-none : (s : Fortuna) (text : List ℕ) (held : ℕ) (out : List ℕ) → held ≡ 0 → Finishes (session s text held) 0 out out
+pub finishes-none : (x : Session) (out : List ℕ) → x.held ≡ 0 → Finishes x 0 out out
 unfolding finish_printed held_line final_line printed_from
-finishes-none s text held out e =
+finishes-none x out e =
     rw e (record { written = refl; fits = zero-le; shown = sym (overwrite-nothing out) })
 
-pub finishes-some : (s : Fortuna) (text : List ℕ) (held : ℕ) (line out out' : List ℕ) (o : LineOutcome) → (held ≡ 0 → ⊥) → 0 < length text
-    → line ≡ take held text → Prints (line_of s line) o out out' → Finishes (session s text held) o.written out out'
-finishes-some s text held line out out' o some room so_far p =
+pub finishes-some : (x : Session) (line out out' : List ℕ) (o : LineOutcome) → (x.held ≡ 0 → ⊥) → 0 < length x.text
+    → line ≡ take x.held x.text → Prints (line_of x.state line) o out out' → Finishes x o.written out out'
+finishes-some x line out out' o some room so_far p =
     record {
       written = p.written ∙ ap length (sym same);
       fits = rw same p.fits;
       shown = p.shown ∙ ap (overwrite out) (sym same);
     }
   where
-    one : (l : List ℕ) → 0 < length l → printed_from s (final_line l) ≡ (line_of s l).printed
+    one : (l : List ℕ) → 0 < length l → printed_from x.state (final_line l) ≡ (line_of x.state l).printed
     one [] k = absurd (omega arith)
-    one (c ∷ l) k = unfold printed_from final_line in append-nil (line_of s (c ∷ l)).printed
+    one (c ∷ l) k = unfold printed_from final_line in append-nil (line_of x.state (c ∷ l)).printed
 
-    same : finish_printed (session s text held) ≡ (line_of s line).printed
-    same = rw so_far (unfold finish_printed held_line in one (take held text) (rw length-take (omega arith)))
+    same : finish_printed x ≡ (line_of x.state line).printed
+    same = rw so_far (unfold finish_printed held_line in one (take x.held x.text) (rw length-take (omega arith)))

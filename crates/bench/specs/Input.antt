@@ -7,6 +7,7 @@ use Rattle.pools.specs.declared.Fortuna.{Fortuna}
 use Rattle.bench.specs.Frames.{max_wide_line}
 use Rattle.bench.specs.Buffers.{zeros, appended, held_after}
 use Rattle.bench.specs.Lines.{line_feed, line_of}
+use Rattle.bench.specs.declared.input.Session.{Session}
 use Rattle.bench.specs.declared.input.StepOutcome.{StepOutcome}
 
 -- ---- lines
@@ -54,12 +55,6 @@ used_by rest = length (first_line rest) + cond (has_line_feed rest) 1 0
 -- room for a line that is too long to be a frame of any kind
 abbrev pub line_buffer : ℕ
 line_buffer = max_wide_line + 1
-
--- between two steps: the state, and the line so far, which stands in the first `held` places of `text`
-pub record Session : Type 0 where
-  pub state : Fortuna
-  pub text : List ℕ
-  pub held : ℕ
 
 -- the line so far
 unfoldable pub held_line : Session → List ℕ
@@ -114,14 +109,10 @@ start = record { state = fresh; text = zeros line_buffer; held = 0 }
 
 -- ---- what the code promises
 
--- a session by its parts
-abbrev pub session : Fortuna → List ℕ → ℕ → Session
-session s text held = record { state = s; text = text; held = held }
-
--- a function makes a step: it returns the next session, with its text in the buffer, how many characters it used, and how many it wrote
--- at the front of the output, where they fit
-pub record Steps (x : Session) (rest : List ℕ) (r : StepOutcome) (text before after : List ℕ) : Type 0 where
-  pub next : session r.next text r.held ≡ step_session x rest
+-- a function makes a step: it leaves the next session, and returns how many characters it used, and how many it wrote at the front of the
+-- output, where they fit
+pub record Steps (x : Session) (rest : List ℕ) (r : StepOutcome) (y : Session) (before after : List ℕ) : Type 0 where
+  pub next : y ≡ step_session x rest
   pub used : r.used ≡ used_by rest
   pub written : r.written ≡ length (step_printed x rest)
   pub fits : length (step_printed x rest) ≤ length before

@@ -3,6 +3,7 @@ ghost use Rattle.std.specs.Prelude.{◌≡◌};
 ghost use Rattle.bench.specs.Frames.{frame_of};
 
 // A frame. An event's data are the bytes from place 3 on, a wide event's those from place 4 on, an update's seed those from place 5 on.
+// Kept: (d) no data in a frame: an update writes over its seed, so the bytes are lent again, by place.
 #[derive(Clone, Copy)]
 pub enum Frame {
     Event { source: u32, pool: u32 },

@@ -1,6 +1,6 @@
 // An input that comes in chunks of any size.
 ghost use Rattle.std.specs.Prelude.{◌≡◌, length};
-ghost use Rattle.bench.specs.Input.{first_line, session, Steps, Finishes};
+ghost use Rattle.bench.specs.Input.{first_line, Steps, Finishes};
 
 use crate::buffer::append;
 use crate::line::{MAX_OUTPUT, MAX_WIDE_LINE, line};
@@ -10,12 +10,18 @@ use pools::Fortuna;
 // Room for a line that is too long to be a frame of any kind.
 pub const LINE_BUFFER: usize = MAX_WIDE_LINE + 1;
 
-// The state, how many characters of the line so far are held, how many of the chunk were used, and how many were printed.
-#[repr(C)]
+// Between two steps: the state, and the line so far, which stands in the first `held` places of `text`.
+// Kept: (a) `held` beside `text`, and no Vec: there is no heap.
+#[derive(Drop)]
+pub struct Session {
+    pub state: Fortuna,
+    pub text: [u8; LINE_BUFFER],
+    pub held: usize,
+}
+
+// How many characters of the chunk a step used, and how many it printed.
 #[derive(Clone, Copy)]
 pub struct StepOutcome {
-    pub next: Fortuna,
-    pub held: usize,
     pub used: usize,
     pub written: usize,
 }
@@ -30,48 +36,36 @@ pub fn line_length(chunk: &[u8]) -> usize
         .unwrap_or(chunk.len())
 }
 
-// A step over what is left of a chunk: it adds the characters before the first line feed to the line so far, and carries
-// the line out if a line feed ends it.
-// Kept: (a) `text` and `held` side by side, here and in `finish`: `held` is a field of StepOutcome (repr(C)), `text` the caller's (no heap).
-pub fn step(
-    state: Fortuna,
-    text: &mut [u8; LINE_BUFFER],
-    held: usize,
-    chunk: &[u8],
-    out: &mut [u8; MAX_OUTPUT],
-) -> StepOutcome
-    ensures { Steps (session state text.old held) chunk.now result text.new out.old out.new }
-{
-    let n = line_length(chunk);
-    let now_held = append(text, held, &chunk[..n]);
-    if n == chunk.len() {
-        return StepOutcome {
-            next: state,
-            held: now_held,
-            used: n,
-            written: 0,
-        };
+impl Session {
+    // A step over what is left of a chunk: it adds the characters before the first line feed to the line so far, and carries
+    // the line out if a line feed ends it.
+    pub fn step(&mut self, chunk: &[u8], out: &mut [u8; MAX_OUTPUT]) -> StepOutcome
+        ensures { Steps self.old chunk.now result self.new out.old out.new }
+    {
+        let n = line_length(chunk);
+        self.held = append(&mut self.text, self.held, &chunk[..n]);
+        if n == chunk.len() {
+            return StepOutcome {
+                used: n,
+                written: 0,
+            };
+        }
+        let o = line(self.state, front(&self.text, self.held), out);
+        self.state = o.next;
+        self.held = 0;
+        StepOutcome {
+            used: n + 1,
+            written: o.written,
+        }
     }
-    let o = line(state, front(text, now_held), out);
-    StepOutcome {
-        next: o.next,
-        held: 0,
-        used: n + 1,
-        written: o.written,
-    }
-}
 
-// The end of the input: carries out a last line that has no line feed. Returns how many characters were printed.
-pub fn finish(
-    state: Fortuna,
-    text: &[u8; LINE_BUFFER],
-    held: usize,
-    out: &mut [u8; MAX_OUTPUT],
-) -> usize
-    ensures { Finishes (session state text.now held) result out.old out.new }
-{
-    if held == 0 {
-        return 0;
+    // The end of the input: carries out a last line that has no line feed. Returns how many characters were printed.
+    pub fn finish(&self, out: &mut [u8; MAX_OUTPUT]) -> usize
+        ensures { Finishes self.now result out.old out.new }
+    {
+        if self.held == 0 {
+            return 0;
+        }
+        line(self.state, front(&self.text, self.held), out).written
     }
-    line(state, front(text, held), out).written
 }

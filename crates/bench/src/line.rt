@@ -1,8 +1,9 @@
 // One line: which frame it is, and what it does on a Fortuna state.
-ghost use Rattle.std.specs.Prelude.{◌≡◌, ◌≤◌, length, Some, None};
+ghost use Rattle.std.specs.Prelude.{◌≡◌, ◌≤◌, length, true, false, Some, None, IfSome, IfNone};
 ghost use Rattle.pools.specs.Calls.{event, request, update, write};
 ghost use Rattle.pools.specs.Refusals.{seed_size};
 ghost use Rattle.bench.specs.Frames.{max_line, frame_of, frame_of_text, is_readable};
+ghost use Rattle.bench.specs.Hexadecimal.{decode_hex};
 ghost use Rattle.bench.specs.Buffers.{zeros};
 ghost use Rattle.bench.specs.Lines.{call_of, executed, line_of, Prints};
 
@@ -25,7 +26,6 @@ const NO_FRAME: u32 = 16;
 
 // The state after a line, and how many characters the line printed.
 // Kept: (a) `next` beside `written`: the project's form, by which a call takes the state and gives the next one back.
-#[repr(C)]
 #[derive(Clone, Copy)]
 pub struct LineOutcome {
     pub next: Fortuna,
@@ -50,19 +50,28 @@ fn is_readable(text: &[u8]) -> bool
     text.len() <= max_line(text) && is_hex(text)
 }
 
-// The frame that a line of text is, without its line feed.
-pub fn frame_of_text(text: &[u8]) -> Option<Frame>
-    ensures { result ≡ frame_of_text text.now }
+// The bytes that a line's characters stand for, in the buffer, if they stand for any.
+fn line_bytes<'a>(text: &[u8], buffer: &'a mut [u8; MAX_WIDE_LINE / 2]) -> Option<&'a mut [u8]>
+    ensures some { IfSome result (λ bytes. (is_readable text.now ≡ true) × (bytes.now ≡ decode_hex text.now)) }
+    ensures none { IfNone result (is_readable text.now ≡ false) }
 {
     if !is_readable(text) {
         return None;
     }
-    let mut bytes = [0u8; MAX_WIDE_LINE / 2];
-    decode(text, &mut bytes);
-    parse(&bytes[..text.len() / 2])
+    decode(text, buffer);
+    Some(&mut buffer[..text.len() / 2])
+}
+
+// The frame that a line of text is, without its line feed.
+pub fn frame_of_text(text: &[u8]) -> Option<Frame>
+    ensures { result ≡ frame_of_text text.now }
+{
+    let mut buffer = [0u8; MAX_WIDE_LINE / 2];
+    parse(line_bytes(text, &mut buffer)?)
 }
 
 // No frame: no call is made.
+// Kept: (d) state and out side by side in seven functions: a struct of them would be made for one call and taken apart in it.
 fn invalid_line(state: Fortuna, out: &mut [u8; MAX_OUTPUT]) -> LineOutcome
     ensures { Prints (executed state None) result out.old out.new }
 {
@@ -88,6 +97,7 @@ fn event_line(
     }
 }
 
+// Kept: (d) this, update_line and write_line end alike: a helper for that, with its contract, is longer than what it saves.
 fn request_line(state: Fortuna, clock: u32, count: u16, out: &mut [u8; MAX_OUTPUT]) -> LineOutcome
     ensures { Prints (executed state (Some (request clock (zeros count)))) result out.old out.new }
 {
@@ -148,10 +158,9 @@ fn execute(state: Fortuna, bytes: &mut [u8], out: &mut [u8; MAX_OUTPUT]) -> Line
 pub fn line(state: Fortuna, text: &[u8], out: &mut [u8; MAX_OUTPUT]) -> LineOutcome
     ensures { Prints (line_of state text.now) result out.old out.new }
 {
-    if !is_readable(text) {
-        return invalid_line(state, out);
+    let mut buffer = [0u8; MAX_WIDE_LINE / 2];
+    match line_bytes(text, &mut buffer) {
+        Some(bytes) => execute(state, bytes, out),
+        None => invalid_line(state, out),
     }
-    let mut bytes = [0u8; MAX_WIDE_LINE / 2];
-    decode(text, &mut bytes);
-    execute(state, &mut bytes[..text.len() / 2], out)
 }

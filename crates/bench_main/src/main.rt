@@ -1,7 +1,7 @@
 // The bench: carries out each line of standard input from a fresh state, and prints a line for each.
 #![tactic(auto)]
 
-use bench::input::{LINE_BUFFER, finish, step};
+use bench::input::{LINE_BUFFER, Session};
 use bench::line::MAX_OUTPUT;
 use pools::Fortuna;
 use std::io::{ErrorKind, Read};
@@ -43,7 +43,7 @@ fn passes(rt: &impl Clock, error: &io::Error) -> bool {
 }
 
 // Writes all of out to standard output.
-// Kept: (a) turns are counted to a number that no run uses up: nothing says that an output ever takes a byte (docs/decisions/bench.md).
+// Kept: (a) turns are counted, and no `loop`: one that may never end needs Wait, and no function gets it (the turns: docs/decisions/bench.md).
 fn write_all(rt: &(impl Print + Clock), out: &[u8]) -> Result<(), Failure> {
     let mut rest = out;
     for _ in 0..u64::MAX {
@@ -63,25 +63,21 @@ fn write_all(rt: &(impl Print + Clock), out: &[u8]) -> Result<(), Failure> {
     Err(Failure::Full)
 }
 
-// The state, the line so far with how many of its characters are held, and room for what a line prints.
+// The session of an input, and room for what a line prints.
 #[derive(Drop)]
-struct Session {
-    state: Fortuna,
-    text: [u8; LINE_BUFFER],
-    held: usize,
+struct Bench {
+    session: Session,
     out: [u8; MAX_OUTPUT],
 }
 
-impl Session {
+impl Bench {
     // Carries out the lines that end in a chunk.
     fn feed(&mut self, rt: &(impl Print + Clock), chunk: &[u8]) -> Result<(), Failure> {
         let mut rest = chunk;
         // Kept: (d) no `for`: `split_inclusive` would look for each line feed first, and `step` does again.
         while !rest.is_empty() {
-            let o = step(self.state, &mut self.text, self.held, rest, &mut self.out);
+            let o = self.session.step(rest, &mut self.out);
             write_all(rt, &self.out[..o.written])?;
-            self.state = o.next;
-            self.held = o.held;
             rest = &rest[o.used..];
         }
         Ok(())
@@ -89,25 +85,27 @@ impl Session {
 
     // Carries out a last line that has no line feed.
     fn end(&mut self, rt: &(impl Print + Clock)) -> Result<(), Failure> {
-        let written = finish(self.state, &self.text, self.held, &mut self.out);
+        let written = self.session.finish(&mut self.out);
         write_all(rt, &self.out[..written])
     }
 }
 
 // Carries out all lines of an input.
-// Kept: (a) turns are counted to a number that no run uses up: nothing says that an input ends (docs/decisions/bench.md).
+// Kept: (a) turns are counted, and no `loop`: one that may never end needs Wait, and no function gets it (the turns: docs/decisions/bench.md).
 fn run(rt: &(impl Print + Clock), input: &mut impl Read) -> Result<(), Failure> {
-    let mut session = Session {
-        state: Fortuna::new(),
-        text: [0u8; LINE_BUFFER],
-        held: 0,
+    let mut bench = Bench {
+        session: Session {
+            state: Fortuna::new(),
+            text: [0u8; LINE_BUFFER],
+            held: 0,
+        },
         out: [0u8; MAX_OUTPUT],
     };
     let mut chunk = [0u8; CHUNK];
     for _ in 0..u64::MAX {
         match input.read(&mut chunk) {
             Ok(0) => break,
-            Ok(n) => session.feed(rt, &chunk[..n])?,
+            Ok(n) => bench.feed(rt, &chunk[..n])?,
             Err(error) => {
                 if !passes(rt, &error) {
                     return Err(Failure::Read(error));
@@ -115,7 +113,7 @@ fn run(rt: &(impl Print + Clock), input: &mut impl Read) -> Result<(), Failure> 
             }
         }
     }
-    session.end(rt)
+    bench.end(rt)
 }
 
 // Where standard error cannot be written either, nothing is left to tell it to.

@@ -6,7 +6,7 @@ use lib.Seq.{length-take-le}
 use borrow.Author.Rules.{rules}
 use Rattle.bench.proofs.Lines.{first_fits}
 use Rattle.bench.proofs.Steps.{feed-some, steps_on, steps-ended}
-use Rattle.bench.proofs.input.step.Goals as goal
+use Rattle.bench.proofs.input.Session.step.Goals as goal
 
 pub slice_bounds-append-end-2 : goal.slice_bounds-append-end-2
 slice_bounds-append-end-2 c =
@@ -18,8 +18,7 @@ pub returns-then-n-chunk : goal.returns-then-n-chunk
 returns-then-n-chunk c =
     let a = c.args in
     let n = c.line_length-n in
-    steps_on a.state a.text.now a.held a.chunk.now n.result c.append-now_held.result _ n.ensures c.append-now_held.ensures
-    a.out.now c.if-n-chunk.true
+    steps_on a.self.now a.chunk.now n.result _ _ n.ensures c.append-self.ensures a.out.now c.if-n-chunk.true
 
 pub overflow_add-result : goal.overflow_add-result
 overflow_add-result c =
@@ -32,5 +31,5 @@ pub returns : goal.returns
 returns c =
     let a = c.args in
     let n = c.line_length-n in
-    steps-ended a.state a.text.now a.held a.chunk.now n.result c.append-now_held.result _ n.ensures c.append-now_held.ensures
+    steps-ended a.self.now a.chunk.now n.result _ _ n.ensures c.append-self.ensures
     _ a.out.now _ c.line-o.result c.if-n-chunk.false c.front.ensures c.line-o.ensures

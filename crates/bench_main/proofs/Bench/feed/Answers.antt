@@ -4,7 +4,7 @@ use borrow.Author.Tests.{eqb-false}
 use Rattle.std.proofs.Math.ListN.{length-take, length-drop}
 use Rattle.bench.proofs.Buffers.{length-overwrite}
 use Rattle.bench.proofs.Lines.{used-more, used-fits}
-use Rattle.bench_main.proofs.Session.feed.Goals as goal
+use Rattle.bench_main.proofs.Bench.feed.Goals as goal
 
 pub shared_ref_as_front-write_all : goal.shared_ref_as_front-write_all
 shared_ref_as_front-write_all g c = omega (arith, c.loop-rest.invariant, c.step-o.ensures.written, c.step-o.ensures.fits)
