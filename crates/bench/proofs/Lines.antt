@@ -195,29 +195,23 @@ module _ (r x rest : List ℕ) (i : ℕ) (cut : r ≡ x ++ rest) (size : length 
       ∙ position_or_len_is (λ c. eqb c line_feed) r (min i (length r)) 0 (omega arith) (λ k h. first.0 k 0 (omega arith) (omega arith))
       (λ h. let e : min i (length r) ≡ i = omega arith in rw e (first.1 (omega arith) 0))
 
-  used : length x ≡ used_by r
-  used =
+  pub part-used : length x ≡ used_by r
+  part-used =
       by-test (has_line_feed r) (length x ≡ used_by r)
       (λ t. omega (arith, used-ended r t, longer r t, place, size))
       (λ t. omega (arith, used_all r t, ap length (first-all r t), place, size))
-
-  -- what is left are the lines behind it
-  pub cut-lines : 0 < length r → lines r ≡ first_line r ∷ lines rest
-  cut-lines some =
-      lines-first r some
-      ∙ ap (λ (l : List ℕ). first_line r ∷ lines l) (ap (λ (n : ℕ). drop n r) (sym used) ∙ ap (drop (length x)) cut ∙ drop_at x rest (length x) refl)
 
   -- the line itself, where it has a line feed and where it has none
   part-ended : has_line_feed r ≡ true → x ≡ first_line r ++ (line_feed ∷ [])
   part-ended t =
       sym (take_at x rest (length x) refl)
       ∙ ap (take (length x)) (sym cut ∙ first_ended r t ∙ sym (append_assoc (first_line r) (line_feed ∷ []) (drop (used_by r) r)))
-      ∙ take_at (first_line r ++ (line_feed ∷ [])) (drop (used_by r) r) (length x) (length-append (first_line r) (line_feed ∷ []) ∙ sym (used ∙ used-ended r t))
+      ∙ take_at (first_line r ++ (line_feed ∷ [])) (drop (used_by r) r) (length x) (length-append (first_line r) (line_feed ∷ []) ∙ sym (part-used ∙ used-ended r t))
 
   part-last : has_line_feed r ≡ false → x ≡ first_line r
   part-last t =
       sym (take_at x rest (length x) refl) ∙ ap (take (length x)) (sym cut)
-      ∙ take_all (length x) r (omega (arith, used, used_all r t)) ∙ sym (first-all r t)
+      ∙ take_all (length x) r (omega (arith, part-used, used_all r t)) ∙ sym (first-all r t)
 
   pub cut-front : (found : Option (Bor (List ℕ))) (whole : Bor (List ℕ)) → whole.now ≡ x
       → MatchOption found (pointwise nat_eq (drop (length x - 1) x) (line_feed ∷ []) ≡ false)
@@ -226,7 +220,7 @@ module _ (r x rest : List ℕ) (i : ℕ) (cut : r ≡ x ++ rest) (size : length 
   cut-front None whole w m =
       by-test (has_line_feed r) (whole.now ≡ first_line r)
       (λ t.
-      let n : length x - 1 ≡ length (first_line r) = omega (arith, used, used-ended r t) in
+      let n : length x - 1 ≡ length (first_line r) = omega (arith, part-used, used-ended r t) in
       let feed : drop (length x - 1) x ≡ line_feed ∷ [] =
       ap (λ (k : ℕ). drop k x) n ∙ ap (drop (length (first_line r))) (part-ended t) ∙ drop_at (first_line r) (line_feed ∷ []) (length (first_line r)) refl in
       absurd (true≢false (sym (ap (λ (l : List ℕ). pointwise nat_eq l (line_feed ∷ [])) feed) ∙ m)))
@@ -234,7 +228,7 @@ module _ (r x rest : List ℕ) (i : ℕ) (cut : r ≡ x ++ rest) (size : length 
   cut-front (Some y) whole w (p, front, l) =
       by-test (has_line_feed r) (y.now ≡ first_line r)
       (λ t.
-      let n : length x - 1 ≡ length (first_line r) = omega (arith, used, used-ended r t) in
+      let n : length x - 1 ≡ length (first_line r) = omega (arith, part-used, used-ended r t) in
       front ∙ ap (λ (k : ℕ). take k x) n ∙ ap (take (length (first_line r))) (part-ended t)
       ∙ take_at (first_line r) (line_feed ∷ []) (length (first_line r)) refl)
       (λ t. absurd (true≢false (sym p ∙ feedless-last x (ap has_line_feed (part-last t) ∙ first-feedless r))))

@@ -9,6 +9,7 @@ use native.Mathlib.Omega.{arith}
 use lib.Dec.{eqb}
 use lib.ListN.{length, take, drop, take-append-drop}
 use lib.Pointwise.{pointwise}
+use lib.Seq.{drop_at}
 use denote.Ref.{Bor}
 use denote.Param.Members.{Mut}
 use Rattle.std.specs.Prelude.{Option, Some, None, MatchOption, unwrap_or, nat_eq}
@@ -23,10 +24,10 @@ use Rattle.pools.specs.State.{fresh}
 use Rattle.pools.specs.declared.Fortuna.{Fortuna}
 use Rattle.bench.specs.Buffers.{appended, held_after}
 use Rattle.bench.specs.Lines.{line_feed, LineEffect, line_of, Prints}
-use Rattle.bench.specs.Input.{lines, printed_from, transcript}
+use Rattle.bench.specs.Input.{lines, first_line, used_by, printed_from, transcript}
 use Rattle.bench.specs.declared.line.LineOutcome.{LineOutcome}
 use Rattle.bench.proofs.Buffers.{length-appended, held-append, appended-append, length-overwrite, take-overwrite, overwrite-nothing}
-use Rattle.bench.proofs.Lines.{lines-none, cut-lines, cut-front}
+use Rattle.bench.proofs.Lines.{lines-none, lines-first, part-used, cut-front}
 
 -- ---- the parts that `split_inclusive` gives
 
@@ -48,7 +49,7 @@ pub no-part : {F : Type 0} (g : Mut F (Bor ℕ × Unit {0}) Bool) (t u : SplitIn
     → length (split_inclusive_rest t) ≡ 0
 no-part g t u r is next = (subst (λ (o : Option (Bor (List ℕ))). Cuts g t o u) is next).0
 
--- a part, and what is left behind it, where `found` is the part without its line feed
+-- a part, and what is left behind it
 module _ {F : Type 0} (g : Mut F (Bor ℕ × Unit {0}) Bool) (s t u : SplitInclusive ℕ F) (xs : List (Bor (List ℕ))) (sofar : Yields (Cuts g) s xs t)
     (tests : (x : ℕ) (b : Bool) (q : F) → CalledAt g (split_inclusive_callee s) x b q → (q ≡ split_inclusive_callee s) × (b ≡ eqb x line_feed))
     (r : Option (Bor (List ℕ))) (x : Bor (List ℕ)) (is : r ≡ Some x) (next : Cuts g t r u) where
@@ -61,16 +62,31 @@ module _ {F : Type 0} (g : Mut F (Bor ℕ × Unit {0}) Bool) (s t u : SplitInclu
       (always_returns_same g (λ a b. b ≡ eqb a.0.now line_feed) (split_inclusive_callee s)
       (λ a b q k. let m = tests a.0.now b q (record { shown = a.0; shows = refl; called = k }) in (m.1, m.0)))
 
-  pub part-lines : (found : Option (Bor (List ℕ)))
-      → MatchOption found (pointwise nat_eq (drop (length x.now - 1) x.now) (line_feed ∷ []) ≡ false)
+  -- it takes the line and its end
+  pub part-uses : length x.now ≡ used_by (split_inclusive_rest t)
+  part-uses =
+      part-used (split_inclusive_rest t) x.now (split_inclusive_rest u) cut.1.0 cut.0 cut.1.1 (cut.1.2 (λ c. eqb c line_feed) computes).1
+
+  pub part-cut : split_inclusive_rest t ≡ x.now ++ split_inclusive_rest u
+  part-cut = cut.0
+
+  pub part-some : 0 < length (split_inclusive_rest t)
+  part-some = cut.2
+
+  -- where `found` is the part without its line feed
+  module _ (found : Option (Bor (List ℕ)))
+      (m : MatchOption found (pointwise nat_eq (drop (length x.now - 1) x.now) (line_feed ∷ []) ≡ false)
       (λ y. (pointwise nat_eq (drop (length x.now - 1) x.now) (line_feed ∷ []) ≡ true) × (y.now ≡ take (length x.now - 1) x.now)
-      × (length y.now + 1 ≡ length x.now))
-      → lines (split_inclusive_rest t) ≡ (unwrap_or found x).now ∷ lines (split_inclusive_rest u)
-  part-lines found m =
-      let at = (cut.1.2 (λ c. eqb c line_feed) computes).1 in
-      cut-lines (split_inclusive_rest t) x.now (split_inclusive_rest u) cut.1.0 cut.0 cut.1.1 at cut.2
-      ∙ ap (λ (l : List ℕ). l ∷ lines (split_inclusive_rest u))
-      (sym (cut-front (split_inclusive_rest t) x.now (split_inclusive_rest u) cut.1.0 cut.0 cut.1.1 at found x refl m))
+      × (length y.now + 1 ≡ length x.now))) where
+    pub part-text : (unwrap_or found x).now ≡ first_line (split_inclusive_rest t)
+    part-text =
+        cut-front (split_inclusive_rest t) x.now (split_inclusive_rest u) cut.1.0 cut.0 cut.1.1 (cut.1.2 (λ c. eqb c line_feed) computes).1 found x refl m
+
+    pub part-lines : lines (split_inclusive_rest t) ≡ (unwrap_or found x).now ∷ lines (split_inclusive_rest u)
+    part-lines =
+        lines-first (split_inclusive_rest t) part-some
+        ∙ ap₂ (λ (l r : List ℕ). l ∷ lines r) (sym part-text)
+        (ap₂ drop (sym part-uses) part-cut ∙ drop_at x.now (split_inclusive_rest u) (length x.now) refl)
 
 -- ---- what was done
 

@@ -1,25 +1,34 @@
 -- The lines of a log, one after the other, as the code walks them.
 -- Assumes nothing.
 use mathlib.Core.Path.{◌≡◌, refl, sym, ap, ap₂, ◌∙◌}
-use mathlib.Core.Bool.{Bool, false}
+use mathlib.Core.Bool.{Bool, true, false}
 use mathlib.Core.List.{List, [], ◌∷◌, ◌++◌, append_assoc, append-nil}
 use Prim.Native.Nat.{ℕ, suc, ◌+◌, ◌-◌, ◌≤◌, ◌<◌}
 use native.Mathlib.Nat.{le_of_eq}
 use native.Mathlib.Omega.{arith}
 use lib.ListN.{length, take, drop, length-append, length-drop, take-append-drop, drop_of_length-le}
 use lib.Seq.{drop-drop, take_at, drop_at, length-take-le}
-use lib.Dec.{eqb}
-use borrow.Author.Tests.{eq-eqb, ne_eqb, eqb-false}
-use Rattle.std.specs.Prelude.{Ok, Err}
+use lib.Dec.{eqb, ltb}
+use lib.Pointwise.{pointwise}
+use denote.Ref.{Bor}
+use denote.Param.Members.{Mut}
+use borrow.Author.Tests.{eq-eqb, ne_eqb}
+use Rattle.std.specs.Prelude.{Option, Some, MatchOption, unwrap_or, nat_eq, Result, Ok, Err}
+use Rattle.std.specs.Fn.{CalledAt}
+use Rattle.std.specs.Iterator.{Yields}
+use Rattle.std.specs.Slice.Iter.{split_inclusive_rest, split_inclusive_callee}
+use Rattle.std.specs.declared.slice.SplitInclusive.{SplitInclusive}
 use Rattle.std.proofs.lemmas.List.{nil_from_length}
 use Rattle.laws.specs.Lists.{overwrite}
 use Rattle.laws.proofs.Copy.{overwrite-fits, part_end}
 use Rattle.bench.proofs.Buffers.{overwrite-nothing}
-use Rattle.bench.proofs.Lines.{used-more, used-fits}
-use Rattle.convert.specs.Logs.{Line, log_lines, written_of, refusal_of, Conversion, all_written, with_bytes, converted_lines, conversion}
-use Rattle.convert.specs.Promises.{code, code-above-0, number, written_bytes, line_writes, Gives, first_of, ConvertsFirst}
-use Rattle.convert.specs.declared.line.FirstLine.{FirstLine}
+use Rattle.bench.specs.Lines.{line_feed}
+use Rattle.bench.proofs.Lines.{used-more}
+use Rattle.bench.proofs.Logs.{Cuts, part-text, part-uses, part-cut, part-some}
+use Rattle.convert.specs.Logs.{Line, line_with, log_lines, written_of, refusal_of, Conversion, all_written, with_bytes, converted_lines, conversion}
+use Rattle.convert.specs.Promises.{code, code-above-0, number, written_bytes, line_writes, Gives, ConvertsLine, FirstPart}
 use Rattle.convert.specs.declared.refusal.Refusal.{Refusal}
+use Rattle.convert.proofs.Writes.{first-part}
 use Rattle.convert.proofs.LogLines.{lines_none, lines-first}
 use Rattle.convert.proofs.Conversions.{line-accepted, goes_on, stops, no_lines, with-with, number-with}
 use Rattle.convert.proofs.FirstRefused.{first-refused}
@@ -48,9 +57,19 @@ walked_none wide log out = record {
         unfold conversion with_bytes in
         let z : length out - 0 ≡ length out = omega arith in ap (λ (n : ℕ). converted_lines wide n 1 (log_lines log)) (sym z)
 
--- what the loop's test says
-pub some-left : (left : List ℕ) (empty : Bool) → empty ≡ eqb (length left) 0 → empty ≡ false → 0 < length left
-some-left left empty e f = omega (arith, eqb-false (length left) 0 (sym e ∙ f))
+-- a part that `split_inclusive` gives is the first line of what it has left, and its end
+module _ {F : Type 0} (g : Mut F (Bor ℕ × Unit {0}) Bool) (s t u : SplitInclusive ℕ F) (xs : List (Bor (List ℕ))) (sofar : Yields (Cuts g) s xs t)
+    (tests : (x : ℕ) (b : Bool) (q : F) → CalledAt g (split_inclusive_callee s) x b q → (q ≡ split_inclusive_callee s) × (b ≡ eqb x line_feed))
+    (r : Option (Bor (List ℕ))) (x : Bor (List ℕ)) (is : r ≡ Some x) (next : Cuts g t r u) (found : Option (Bor (List ℕ)))
+    (m : MatchOption found (pointwise nat_eq (drop (length x.now - 1) x.now) (line_feed ∷ []) ≡ false)
+    (λ y. (pointwise nat_eq (drop (length x.now - 1) x.now) (line_feed ∷ []) ≡ true) × (y.now ≡ take (length x.now - 1) x.now)
+    × (length y.now + 1 ≡ length x.now)))
+    (text : Bor (List ℕ)) (is-text : text ≡ unwrap_or found x) where
+  pub part-first : FirstPart (split_inclusive_rest t) x.now text.now (ltb (length text.now) (length x.now)) (split_inclusive_rest u)
+  part-first =
+      first-part (split_inclusive_rest t) x.now text.now (split_inclusive_rest u)
+      (ap (λ (b : Bor (List ℕ)). b.now) is-text ∙ part-text g s t u xs sofar tests r x is next found m)
+      (part-uses g s t u xs sofar tests r x is next) (part-cut g s t u xs sofar tests r x is next) (part-some g s t u xs sofar tests r x is next)
 
 -- what a buffer holds where its front is written and the rest is as it was
 front-is : (out₀ out : List ℕ) (n : ℕ) → n ≤ length out₀ → length out ≡ length out₀ → drop n out ≡ drop n out₀
@@ -112,33 +131,25 @@ module _ (wide : Bool) (log out₀ out left : List ℕ) (line written : ℕ) (w 
       }
 
   -- a line more
-  module _ (some : 0 < length left) (o : FirstLine) (part' : List ℕ) (g : ConvertsFirst wide left o part part') where
-    pub used-some : 0 < o.used
-    used-some = omega (arith, g.used-is, used-more left some)
+  module _ (piece text : List ℕ) (ended : Bool) (after : List ℕ) (f : FirstPart left piece text ended after) (o : Result ℕ Refusal) (part' : List ℕ)
+      (g : ConvertsLine wide (line_with text ended) o part part') where
+    used-some : 0 < length piece
+    used-some = omega (arith, f.used-is, used-more left f.some)
 
-    pub used-within : o.used ≤ length left
-    used-within = omega (arith, g.used-is, used-fits left)
-
-    -- what the line leaves
-    abbrev after : List ℕ
-    after = take (length left - o.used) (drop o.used left)
-
-    after-is : after ≡ drop o.used left
-    after-is = part_end o.used left
-
-    pub after-size : length after + o.used ≡ length left
-    after-size = omega (arith, ap length after-is, length-drop o.used left, used-within)
+    after-size : length piece + length after ≡ length left
+    after-size = sym (ap length f.cut ∙ length-append piece after)
 
     abbrev here : Line
-    here = first_of left
+    here = line_with text ended
 
     abbrev behind : List Line
     behind = log_lines after
 
     lines-here : log_lines left ≡ here ∷ behind
     lines-here =
-        lines-first left some
-        ∙ ap (λ (x : List ℕ). here ∷ log_lines x) (ap (λ (n : ℕ). drop n left) (sym g.used-is) ∙ sym after-is)
+        lines-first left f.some
+        ∙ ap₂ (λ (l : Line) (x : List ℕ). l ∷ log_lines x) (sym f.line-is)
+        (ap₂ drop (sym f.used-is) f.cut ∙ drop_at piece after (length piece) refl)
 
     -- what is left to do begins with this line
     abbrev remaining : Conversion
@@ -149,15 +160,15 @@ module _ (wide : Bool) (log out₀ out left : List ℕ) (line written : ℕ) (w 
         w.whole
         ∙ ap₂ (λ (k : ℕ) (ls : List Line). with_bytes (take written out) (converted_lines wide k line ls)) (sym part_room) lines-here
 
-    number_is : number o.written ≡ refusal_of wide (length part) here
-    number_is = g.converts.number_is
+    number_is : number o ≡ refusal_of wide (length part) here
+    number_is = g.number_is
 
     abbrev out' : List ℕ
     out' = take written out ++ (part' ++ drop (length out - written) (drop written out))
 
     -- ---- it is refused
 
-    module _ (refusal : Refusal) (refused : o.written ≡ Err refusal) where
+    module _ (refusal : Refusal) (refused : o ≡ Err refusal) where
       code-is : code refusal ≡ refusal_of wide (length part) here
       code-is = sym (ap number refused) ∙ number_is
 
@@ -167,7 +178,7 @@ module _ (wide : Bool) (log out₀ out left : List ℕ) (line written : ℕ) (w 
       same_out : out' ≡ out
       same_out =
           let none = writes-none wide (length part) here is-some in
-          let e : part' ≡ part = g.converts.buffer-is ∙ ap (overwrite part) none ∙ overwrite-nothing part in
+          let e : part' ≡ part = g.buffer-is ∙ ap (overwrite part) none ∙ overwrite-nothing part in
           rw (e, take-append-drop (length out - written) (drop written out)) (take-append-drop written out)
 
       pub walk-stops : Gives (conversion wide (length out₀) log)
@@ -186,7 +197,7 @@ module _ (wide : Bool) (log out₀ out left : List ℕ) (line written : ℕ) (w 
 
     -- ---- it is written
 
-    module _ (count : ℕ) (taken : o.written ≡ Ok count) where
+    module _ (count : ℕ) (taken : o ≡ Ok count) where
       none : refusal_of wide (length part) here ≡ 0
       none = sym number_is ∙ ap number taken
 
@@ -197,14 +208,14 @@ module _ (wide : Bool) (log out₀ out left : List ℕ) (line written : ℕ) (w 
       new-fits = (line-accepted wide (length part) here none).fits
 
       new-size : count ≡ length new
-      new-size = sym (ap written_bytes taken) ∙ g.converts.written_is ∙ ap length (writes-all wide (length part) here none)
+      new-size = sym (ap written_bytes taken) ∙ g.written_is ∙ ap length (writes-all wide (length part) here none)
 
       out-is : out' ≡ (take written out ++ new) ++ drop (written + count) out₀
       out-is =
           let z : drop (length out - written) (drop written out) ≡ [] =
           drop_of_length-le (drop written out) {i = length out - written} (le_of_eq (length-drop written out)) in
           let p : part' ≡ new ++ drop (written + count) out₀ =
-          g.converts.buffer-is ∙ ap (overwrite part) (writes-all wide (length part) here none) ∙ overwrite-fits part new new-fits
+          g.buffer-is ∙ ap (overwrite part) (writes-all wide (length part) here none) ∙ overwrite-fits part new new-fits
           ∙ ap (λ (x : List ℕ). new ++ x) (ap₂ drop (sym new-size) part-is ∙ drop-drop count written out₀) in
           rw (z, append-nil part', p) (sym (append_assoc (take written out) new (drop (written + count) out₀)))
 

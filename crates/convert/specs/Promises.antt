@@ -8,7 +8,6 @@ use Rattle.bench.specs.Input.{first_line, has_line_feed, used_by}
 use Rattle.convert.specs.Logs.{Line, line_with, end_of, written_of, refusal_of, Conversion}
 use Rattle.convert.specs.declared.outcome.Refused.{Refused}
 use Rattle.convert.specs.declared.outcome.Outcome.{Outcome}
-use Rattle.convert.specs.declared.line.FirstLine.{FirstLine}
 use Rattle.convert.specs.declared.refusal.Refusal.{Refusal}
 use Rattle.convert.specs.declared.refusal.Refusal.TheVariants.{NoFrame, LargeSource, NoRoom}
 
@@ -73,10 +72,12 @@ ConvertsLine wide l r before after =
 abbrev pub first_of : List ℕ → Line
 first_of rest = line_with (first_line rest) (has_line_feed rest)
 
--- a function converts that line, and tells how many characters it and its end are
-pub record ConvertsFirst (wide : Bool) (rest : List ℕ) (r : FirstLine) (before after : List ℕ) : Type 0 where
-  pub used-is : r.used ≡ used_by rest
-  pub converts : ConvertsLine wide (first_of rest) r.written before after
+-- a part of a log is that line and its end, and something is left
+pub record FirstPart (rest part text : List ℕ) (ended : Bool) (behind : List ℕ) : Type 0 where
+  pub line-is : line_with text ended ≡ first_of rest
+  pub used-is : length part ≡ used_by rest
+  pub cut : rest ≡ part ++ behind
+  pub some : 0 < length rest
 
 -- ---- of a text
 

@@ -10,21 +10,20 @@ ghost use Rattle.std.specs.Prelude.{length};
 ghost use Rattle.convert.specs.Logs.{conversion};
 ghost use Rattle.convert.specs.Promises.{Gives};
 
-use line::convert_first;
+use line::convert_line;
 pub use outcome::{Outcome, Refused};
 pub use refusal::Refusal;
 
 // A whole log, at the front of out: 05 for every event where `wide`, else 01. A refused line ends the work; those before it are written.
+// Kept: (a) a bool for the kind wanted, here and in what this calls: C has it (fortuna_convert), and `conversion` takes it.
 pub fn convert(log: &[u8], wide: bool, out: &mut [u8]) -> Outcome
     ensures { Gives (conversion wide (length out.old) log.now) result out.old out.new }
 {
-    let mut rest = log;
     let mut line = 1;
     let mut written = 0;
-    // Kept: (d) no `for`: `split_inclusive` would look for each line feed first, and `convert_first` does again.
-    while !rest.is_empty() {
-        let first = convert_first(rest, wide, &mut out[written..]);
-        match first.written {
+    for part in log.split_inclusive(|c| *c == b'\n') {
+        let text = part.strip_suffix(b"\n").unwrap_or(part);
+        match convert_line(text, text.len() < part.len(), wide, &mut out[written..]) {
             Ok(n) => written += n,
             Err(refusal) => {
                 return Outcome {
@@ -33,7 +32,6 @@ pub fn convert(log: &[u8], wide: bool, out: &mut [u8]) -> Outcome
                 };
             }
         }
-        rest = &rest[first.used..];
         line += 1;
     }
     Outcome {

@@ -1,20 +1,12 @@
 // One line into a lent buffer, as a frame of the wanted kind.
-ghost use Rattle.std.specs.Prelude.{◌≡◌, ◌++◌, ◌+◌, ◌≤◌, length, drop};
+ghost use Rattle.std.specs.Prelude.{◌≡◌, ◌++◌, ◌+◌, ◌≤◌, length};
 ghost use Rattle.convert.specs.Logs.{end_of, line_with};
-ghost use Rattle.convert.specs.Promises.{ConvertsLine, ConvertsFirst, StoresText, PartsStored, EndStored};
+ghost use Rattle.convert.specs.Promises.{ConvertsLine, StoresText, PartsStored, EndStored};
 
 use crate::action::{Action, action_of};
 use crate::refusal::Refusal;
-use bench::input::line_length;
 use bench::line::frame_of_text;
 use laws::{after, overwrite};
-
-// How many bytes of the log the first line and its end take; and how many were written for them, or why the line is refused.
-#[derive(Clone, Copy)]
-pub(crate) struct FirstLine {
-    pub used: usize,
-    pub written: Result<usize, Refusal>,
-}
 
 // How many characters end a line.
 #[tactic(auto, unfolding(crate::specs::Logs::end_of))]
@@ -60,24 +52,12 @@ fn put(front: &[u8], rest: &[u8], ended: bool, out: &mut [u8]) -> Result<usize, 
 }
 
 // A line's text and end: how many bytes were written.
-fn convert_line(text: &[u8], ended: bool, wide: bool, out: &mut [u8]) -> Result<usize, Refusal>
+pub(crate) fn convert_line(text: &[u8], ended: bool, wide: bool, out: &mut [u8]) -> Result<usize, Refusal>
     ensures { ConvertsLine wide (line_with text.now ended) result out.old out.new }
 {
     match action_of(frame_of_text(text), wide)? {
         Action::Keep => put(b"", text, ended, out),
         Action::Widen => put(b"0500", after(text, 2), ended, out),
         Action::Narrow => put(b"01", after(text, 4), ended, out),
-    }
-}
-
-// The first line of what is left of a log.
-pub(crate) fn convert_first(rest: &[u8], wide: bool, out: &mut [u8]) -> FirstLine
-    ensures { ConvertsFirst wide rest.now result out.old out.new }
-{
-    let n = line_length(rest);
-    let ended = n < rest.len();
-    FirstLine {
-        used: n + end_size(ended),
-        written: convert_line(&rest[..n], ended, wide, out),
     }
 }
