@@ -8,6 +8,7 @@ use laws::overwrite;
 use std::array;
 
 // The first byte of Rcon[n]: up to n = 7 a power of 2.
+// Kept: (a) here as u8, in word_cipher as u32: shared it would be public, and no public function has a `requires`.
 fn round_constant(n: usize) -> u8
     requires { (1 ≤ n) × (n < 8) }
     ensures { result ≡ x_power (n - 1) }
@@ -49,7 +50,7 @@ fn temp(i: usize, t: [u8; 4]) -> [u8; 4]
     requires { (8 ≤ i) × (i < 60) }
     ensures { result ≡ temp i t }
 {
-    // Kept: (b) with `match i % 8` in place of the two tests a key expansion takes twice as long.
+    // Kept: (b) with `match i % 8` in place of the two tests a key expansion takes 1.43 times the instructions (docs/BENCHMARKS.md).
     if i % 8 == 0 {
         let rotated = [t[1], t[2], t[3], t[0]];
         return xor_word(sub_word(rotated), [round_constant(i / 8), 0, 0, 0]);

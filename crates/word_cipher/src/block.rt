@@ -43,6 +43,7 @@ fn last_word(t: &[u32; 1024], p: u32, q: u32, r: u32, s: u32) -> u32
     word_of(a, b, c, d)
 }
 
+// Kept: (d) beside `last_round`: one function would take mixed_word or last_word as a closure, and the place.
 #[tactic(auto, unfolding(crate::specs::Cipher::word_round, crate::specs::Cipher::add_words, crate::specs::Cipher::columns, laws::specs::Lists::tabulate))]
 fn round(t: &[u32; 1024], w: &[u32; 60], n: usize, u: [u32; 4]) -> [u32; 4]
     requires { n < 15 }
