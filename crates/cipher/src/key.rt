@@ -32,6 +32,7 @@ fn put_word(w: &mut [u8; 240], i: usize, word: [u8; 4])
     w[4 * i..4 * i + 4].copy_from_slice(&word);
 }
 
+// Kept: (c) beside `xored` of ctr_drbg (48 bytes; here 4): of the closure in one function over `N` the check finds no element.
 fn xor_word(s: [u8; 4], t: [u8; 4]) -> [u8; 4]
     ensures { result ≡ xor_word s t }
 {
