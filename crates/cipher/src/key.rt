@@ -8,6 +8,7 @@ use laws::overwrite;
 use std::array;
 
 // The first byte of Rcon[n]: up to n = 7 a power of 2.
+// Kept: (a) here as u8, in word_cipher as u32: shared it would be public, and no public function has a `requires`.
 fn round_constant(n: usize) -> u8
     requires { (1 ≤ n) × (n < 8) }
     ensures { result ≡ x_power (n - 1) }
@@ -31,6 +32,7 @@ fn put_word(w: &mut [u8; 240], i: usize, word: [u8; 4])
     w[4 * i..4 * i + 4].copy_from_slice(&word);
 }
 
+// Kept: (c) beside `xored` of ctr_drbg (48 bytes; here 4): of the closure in one function over `N` the check finds no element.
 fn xor_word(s: [u8; 4], t: [u8; 4]) -> [u8; 4]
     ensures { result ≡ xor_word s t }
 {
@@ -49,7 +51,7 @@ fn temp(i: usize, t: [u8; 4]) -> [u8; 4]
     requires { (8 ≤ i) × (i < 60) }
     ensures { result ≡ temp i t }
 {
-    // Kept: (b) with `match i % 8` in place of the two tests a key expansion takes twice as long.
+    // Kept: (b) with `match i % 8` in place of the two tests a key expansion takes 1.43 times the instructions (docs/BENCHMARKS.md).
     if i % 8 == 0 {
         let rotated = [t[1], t[2], t[3], t[0]];
         return xor_word(sub_word(rotated), [round_constant(i / 8), 0, 0, 0]);

@@ -10,7 +10,7 @@ use std::array;
 pub(crate) fn sub_bytes(state: [u8; 16]) -> [u8; 16]
     ensures { result ≡ sub_bytes state }
 {
-    array::from_fn(|i| sub_byte(state[i]))
+    state.map(sub_byte)
 }
 
 pub(crate) fn shift_rows(state: [u8; 16]) -> [u8; 16]

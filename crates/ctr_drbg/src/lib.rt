@@ -116,7 +116,7 @@ impl CtrDrbg {
     }
 
     // A first seeding, or one that starts anew: 48 bytes of entropy input, up to 48 of personalization string.
-    // Kept: (c) one end, here and in the next two: of a closure that may not be called nothing is known of the `out` that it holds.
+    // Kept: (d) one end, here and in the next two: a helper would take answer, step and, for one of them, the buffer too.
     #[tactic(auto, using(crate::proofs::Accepted::accepted), unfolding(crate::proofs::Accepted::operating))]
     pub fn instantiate(self, entropy: &[u8], personalization: &[u8]) -> Outcome
         ensures { (number result.answer ≡ instantiate_answer entropy.now personalization.now)

@@ -5,10 +5,10 @@ use laws::Numbered;
 
 #[derive(Clone, Copy)]
 pub enum Refusal {
-    RequestTooLong,
-    EntropyLength,
-    InputTooLong,
-    SeedingNeeded,
+    RequestTooLong = 14,
+    EntropyLength = 40,
+    InputTooLong = 41,
+    SeedingNeeded = 42,
 }
 
 impl Numbered for Refusal {
@@ -18,11 +18,6 @@ impl Numbered for Refusal {
 
     #[tactic(auto, unfolding(crate::specs::Operations::code))]
     fn number(self) -> u32 {
-        match self {
-            Refusal::RequestTooLong => 14,
-            Refusal::EntropyLength => 40,
-            Refusal::InputTooLong => 41,
-            Refusal::SeedingNeeded => 42,
-        }
+        self as u32
     }
 }

@@ -16,6 +16,7 @@ pub(crate) fn padded(s: &[u8]) -> [u8; 48]
 }
 
 // The exclusive or.
+// Kept: (c) beside `xor_word` of cipher (4 bytes; here 48): of the closure in one function over `N` the check finds no element.
 pub(crate) fn xored(s: [u8; 48], t: [u8; 48]) -> [u8; 48]
     ensures { result ≡ xored s t }
 {

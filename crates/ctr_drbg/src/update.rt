@@ -10,7 +10,7 @@ use laws::overwrite;
 
 // Key and V.
 #[derive(Clone, Copy)]
-pub struct Working {
+pub(crate) struct Working {
     pub key: [u8; 32],
     pub v: [u8; 16],
 }

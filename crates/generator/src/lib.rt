@@ -134,7 +134,7 @@ impl Generator {
     }
 
     // The key becomes D of the key followed by the seed, and the counter grows by 1.
-    // Kept: (c) one end, here and in the next two: of a closure that may not be called nothing is known of the `out` that it holds.
+    // Kept: (d) one end, here and in the next two: a helper would take answer, step and, for two of them, the buffer too.
     #[tactic(auto, using(crate::proofs::Accepted::accepted), unfolding(crate::proofs::Accepted::operating))]
     pub fn reseed(self, seed: &[u8]) -> Outcome
         ensures { (number result.answer ≡ reseed_answer self seed.now) × (result.next ≡ reseeded self seed.now) }

@@ -5,11 +5,11 @@ use laws::Numbered;
 
 #[derive(Clone, Copy)]
 pub enum Refusal {
-    RequestTooLong,
-    SeedTooLong,
-    Malformed,
-    Unseeded,
-    CounterSpent,
+    RequestTooLong = 14,
+    SeedTooLong = 17,
+    Malformed = 21,
+    Unseeded = 23,
+    CounterSpent = 24,
 }
 
 impl Numbered for Refusal {
@@ -19,12 +19,6 @@ impl Numbered for Refusal {
 
     #[tactic(auto, unfolding(crate::specs::Operations::code))]
     fn number(self) -> u32 {
-        match self {
-            Refusal::RequestTooLong => 14,
-            Refusal::SeedTooLong => 17,
-            Refusal::Malformed => 21,
-            Refusal::Unseeded => 23,
-            Refusal::CounterSpent => 24,
-        }
+        self as u32
     }
 }

@@ -1,6 +1,6 @@
 -- The last blocks: zeros after a tail, and the padding's bytes.
 -- Assumes nothing.
-use Rattle.std.proofs.Common.{◌≡◌, ℕ, ◌+◌, ◌-◌, ◌*◌, ◌/◌, ◌%◌, ◌^◌, ◌<◌, ◌≤◌, List, [], ◌∷◌, ◌++◌, length, take, drop, replicate, sym, ap, ◌∙◌, subst, append_assoc, append-nil, arith, length-append, length-drop, drop_of_length-le, length-take-le, take_all, take_at, drop_at}
+use Rattle.std.proofs.Common.{◌≡◌, ℕ, ◌+◌, ◌-◌, ◌*◌, ◌/◌, ◌%◌, ◌^◌, ◌<◌, ◌≤◌, List, [], ◌∷◌, ◌++◌, length, take, drop, replicate, sym, refl, ap, ◌∙◌, subst, append_assoc, append-nil, arith, length-append, length-drop, drop_of_length-le, take_all, take_at, drop_at}
 use lib.ListN.{length-replicate, replicate-append-replicate}
 use lib.Pow.{field, mod-mod-pow}
 use Rattle.laws.specs.Lists.{tabulate, overwrite}
@@ -19,22 +19,22 @@ zeros-add : (n m : ℕ) → replicate {A = ℕ} (n + m) 0 ≡ replicate n 0 ++ r
 zeros-add n m = sym (replicate-append-replicate {A = ℕ} n m 0)
 
 -- what the two copies of `filled` leave: b is written over the part of f from at on
-pub filled_is : (t s f b : List ℕ) (at : ℕ) → length t ≡ 64 → at + length s ≤ 64 → f ≡ overwrite (replicate 64 0) (take at t)
-    → b ≡ overwrite (take (64 - at) (drop at f)) s → take at f ++ (b ++ drop (64 - at) (drop at f)) ≡ zero_filled (take at t ++ s)
+pub filled_is : (t s f b : List ℕ) → length t + length s ≤ 64 → f ≡ overwrite (replicate 64 0) t
+    → b ≡ overwrite (take (64 - length t) (drop (length t) f)) s → take (length t) f ++ (b ++ drop (64 - length t) (drop (length t) f)) ≡ zero_filled (t ++ s)
 unfolding zero_filled
-filled_is t s f b at long fits front back =
-    let n : length (take at t) ≡ at = length-take-le at t (omega arith) in
+filled_is t s f b fits front back =
+    let at = length t in
     let z : length (replicate {A = ℕ} 64 0) ≡ 64 = length-replicate {A = ℕ} 64 0 in
-    let f' : f ≡ take at t ++ replicate (64 - at) 0 =
-    front ∙ overwrite-fits (replicate 64 0) (take at t) (omega arith) ∙ rw (n, drop-replicate at 64 0) in
-    let g : drop at f ≡ replicate (64 - at) 0 = rw f' (drop_at (take at t) (replicate (64 - at) 0) at n) in
+    let f' : f ≡ t ++ replicate (64 - at) 0 =
+    front ∙ overwrite-fits (replicate 64 0) t (omega arith) ∙ rw (drop-replicate at 64 0) in
+    let g : drop at f ≡ replicate (64 - at) 0 = rw f' (drop_at t (replicate (64 - at) 0) at refl) in
     let k : length (replicate {A = ℕ} (64 - at) 0) ≡ 64 - at = length-replicate {A = ℕ} (64 - at) 0 in
     let w : take (64 - at) (drop at f) ≡ replicate (64 - at) 0 = rw g (take_all (64 - at) (replicate (64 - at) 0) (omega arith)) in
     let none : drop (64 - at) (drop at f) ≡ [] = rw g (drop_of_length-le (replicate (64 - at) 0) {i = 64 - at} (omega arith)) in
     let b' : b ≡ s ++ replicate (64 - at - length s) 0 =
     back ∙ rw (w, overwrite-fits (replicate (64 - at) 0) s (omega arith), drop-replicate (length s) (64 - at) 0) in
-    let m : 64 - length (take at t ++ s) ≡ 64 - at - length s = rw length-append (omega arith) in
-    let h : take at f ≡ take at t = rw f' (take_at (take at t) (replicate (64 - at) 0) at n) in
+    let m : 64 - length (t ++ s) ≡ 64 - at - length s = rw length-append (omega arith) in
+    let h : take at f ≡ t = rw f' (take_at t (replicate (64 - at) 0) at refl) in
     rw (h, none, b', m, append-nil, append_assoc)
 
 -- eight bytes put at the end of a block

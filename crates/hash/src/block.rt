@@ -2,7 +2,7 @@
 ghost use Rattle.std.specs.Prelude.{◌≡◌, ℕ, ◌+◌, ◌*◌, ◌<◌, ◌≤◌, take, slice_index};
 ghost use Rattle.hash.specs.Word.{◌⊞◌};
 ghost use Rattle.hash.specs.Constants.{K};
-ghost use Rattle.hash.specs.Block.{block_word, next_word, schedule, initial_working, T₁, T₂, round, add_working, compress};
+ghost use Rattle.hash.specs.Block.{next_word, schedule, initial_working, T₁, T₂, round, add_working, compress};
 ghost use Rattle.hash.specs.Prepared.{prepared, prepared_round, prepared_rounds};
 
 use crate::word::{big_sigma0, big_sigma1, choice, majority, sigma0, sigma1};
@@ -10,7 +10,7 @@ use std::array;
 
 // The working variables.
 #[derive(Clone, Copy)]
-pub struct Working {
+pub(crate) struct Working {
     pub a: u32,
     pub b: u32,
     pub c: u32,

@@ -14,6 +14,7 @@ use crate::tail::{filled, with_length};
 
 // The hash value over the whole blocks so far, the bytes after them with zeros behind, and the count of all bytes. A pool's hash
 // value is over the block of zeros too, which its count leaves out.
+// Kept: (a) a tail of 64 bytes and a length: C has this struct, and 01 keeps a pool as hash, tail and length.
 #[repr(C)]
 #[derive(Clone, Copy)]
 pub struct Hasher {
@@ -62,7 +63,7 @@ fn after_blocks(chain: [u32; 8], data: &[u8], length: u64) -> Hasher
     let (blocks, rest) = data.as_chunks::<64>();
     Hasher {
         chain: hash_blocks(chain, blocks),
-        tail: filled(&[0u8; 64], 0, rest),
+        tail: filled(b"", rest),
         length,
     }
 }
@@ -78,14 +79,14 @@ pub(crate) fn extended(r: &Hasher, data: &[u8]) -> Hasher
     if data.len() < room {
         return Hasher {
             chain: r.chain,
-            tail: filled(&r.tail, at, data),
+            tail: filled(&r.tail[..at], data),
             length,
         };
     }
     if at == 0 {
         return after_blocks(r.chain, data, length);
     }
-    let block = filled(&r.tail, at, &data[..room]);
+    let block = filled(&r.tail[..at], &data[..room]);
     after_blocks(compress(r.chain, &block), &data[room..], length)
 }
 
@@ -94,7 +95,7 @@ pub(crate) fn finished(r: &Hasher) -> [u8; 32]
     ensures { result ≡ finish r.now }
 {
     let at = (r.length % 64) as usize;
-    let marked = filled(&r.tail, at, &[128u8]);
+    let marked = filled(&r.tail[..at], &[128u8]);
     if at < 56 {
         let last = with_length(marked, r.length);
         return digest_bytes(compress(r.chain, &last));
@@ -128,6 +129,7 @@ impl Hasher {
     }
 
     // The state after data, or the refusal of a message above the limit.
+    // Kept: (d) one end as generator's calls have: a helper would take answer, state and step.
     #[tactic(auto, unfolding(crate::proofs::Computing::limiting, crate::specs::Answers::absorbed))]
     pub fn absorb(self, data: &[u8]) -> Outcome
         ensures { (result.answer ≡ within max_message (self.length + length «data».now) tt)

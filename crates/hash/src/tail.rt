@@ -7,14 +7,14 @@ ghost use Rattle.hash.specs.Hasher.{zero_filled};
 use crate::bytes::length_bytes;
 use laws::overwrite;
 
-// The first at bytes of tail, then s, then zeros: whatever stood in the tail after its bytes is gone.
-pub(crate) fn filled(tail: &[u8; 64], at: usize, s: &[u8]) -> [u8; 64]
-    requires { at + length s.now ≤ 64 }
-    ensures { result ≡ zero_filled (take at tail.now ++ s.now) }
+// The bytes of head, then s, then zeros.
+pub(crate) fn filled(head: &[u8], s: &[u8]) -> [u8; 64]
+    requires { length head.now + length s.now ≤ 64 }
+    ensures { result ≡ zero_filled (head.now ++ s.now) }
 {
     let mut block = [0u8; 64];
-    overwrite(&mut block, &tail[..at]);
-    overwrite(&mut block[at..], s);
+    overwrite(&mut block, head);
+    overwrite(&mut block[head.len()..], s);
     block
 }
 

@@ -15,17 +15,17 @@ use Rattle.cipher.specs.Aes.{at, Bytes}
 use Rattle.cipher.proofs.Bytes.{bytes-tabulate}
 use Rattle.word_cipher.specs.Words.{word, byte_of, word_in, packed, unpacked}
 
--- word k of a key, from the key in chunks of four bytes
-pub chunk-word : (key : List ℕ) (k : ℕ) → k < 8
-    → let bytes = get_or (first_chunks 4 8 key) k [] in
-    at bytes 0 + at bytes 1 * 256 + at bytes 2 * 65536 + at bytes 3 * 16777216 ≡ word_in key k
+-- word k of a list of bytes, from its first n chunks of four
+pub chunk-word : (n : ℕ) (s : List ℕ) (k : ℕ) → k < n
+    → let bytes = get_or (first_chunks 4 n s) k [] in
+    at bytes 0 + at bytes 1 * 256 + at bytes 2 * 65536 + at bytes 3 * 16777216 ≡ word_in s k
 unfolding word
-chunk-word key k h =
+chunk-word n s k h =
     let first : k * 4 + 0 ≡ 4 * k = omega arith in
-    let a = rw first at (chunk-element 8 4 k 0 key 0 h (omega arith)) in
-    let b = rw (mul_comm k 4) at (chunk-element 8 4 k 1 key 0 h (omega arith)) in
-    let c = rw (mul_comm k 4) at (chunk-element 8 4 k 2 key 0 h (omega arith)) in
-    let d = rw (mul_comm k 4) at (chunk-element 8 4 k 3 key 0 h (omega arith)) in
+    let a = rw first at (chunk-element n 4 k 0 s 0 h (omega arith)) in
+    let b = rw (mul_comm k 4) at (chunk-element n 4 k 1 s 0 h (omega arith)) in
+    let c = rw (mul_comm k 4) at (chunk-element n 4 k 2 s 0 h (omega arith)) in
+    let d = rw (mul_comm k 4) at (chunk-element n 4 k 3 s 0 h (omega arith)) in
     omega (arith, a, b, c, d)
 
 -- what holds at 0 to 3

@@ -21,6 +21,7 @@ fn sub_word(x: u32, i: usize, j: usize, k: usize, l: usize) -> u32
 }
 
 // The first byte of Rcon[n]: up to n = 7 a power of 2.
+// Kept: (a) here as u32, in cipher as u8: shared it would be public, and no public function has a `requires`.
 fn round_constant(n: usize) -> u32
     requires { (1 ≤ n) × (n < 8) }
     ensures { result ≡ x_power (n - 1) }

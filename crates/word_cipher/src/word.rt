@@ -19,10 +19,9 @@ pub(crate) fn byte_of(x: u32, k: usize) -> u8
 }
 
 // Word i of a list of bytes.
-// Kept: (d) four elements by hand: by `as_chunks` all of the list would be cut into words, of which one is taken.
 pub(crate) fn word_in(s: &[u8], i: usize) -> u32
     requires { 4 * i + 3 < length s.now }
     ensures { result ≡ word_in s.now i }
 {
-    word_of(s[4 * i], s[4 * i + 1], s[4 * i + 2], s[4 * i + 3])
+    u32::from_le_bytes(s.as_chunks::<4>().0[i])
 }

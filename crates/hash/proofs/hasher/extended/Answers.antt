@@ -18,8 +18,8 @@ returns-then-at-eq0 c =
     let a = c.args in
     c.after_blocks.ensures ∙ absorb-whole a.r.now a.«data».now (omega arith)
 
-pub slice_bounds-filled-end : goal.slice_bounds-filled-end
-slice_bounds-filled-end c =
+pub slice_bounds-filled-end-3 : goal.slice_bounds-filled-end-3
+slice_bounds-filled-end-3 c =
     let a = c.args in
     sym (length-take-le (64 - a.r.now.length % 64) a.«data».now (omega arith))
 

@@ -19,7 +19,7 @@ loop-k-preserved c =
     let l = c.loop-k in
     let k : l.k < 8 = omega (arith, c.loop-k-test.true, c.as_chunks.ensures.front_len) in
     let long : length key ≡ 32 = search rules in
-    let word : c.from_le_bytes.result ≡ word_in key l.k = c.from_le_bytes.ensures ∙ rw (c.as_chunks.ensures.front, long) (chunk-word key l.k k) in
+    let word : c.from_le_bytes.result ≡ word_in key l.k = c.from_le_bytes.ensures ∙ rw (c.as_chunks.ensures.front, long) (chunk-word 8 key l.k k) in
     filled_more _ 60 _ _ _ l.invariant (omega arith) word
 
 pub returns : goal.returns
