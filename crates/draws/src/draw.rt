@@ -19,7 +19,7 @@ pub struct Draw {
 }
 
 // Up to d tries: the first value below n is the answer and ends them.
-// Kept: (d) state, clock and `Passing` in three contracts, here and in shuffles: it counts the tries to come, for which a struct would need a field.
+// Kept: (d) state, clock and `Passing` in three contracts, here and in shuffles: `Passing` counts the tries to come, for which a struct would need a field.
 pub(crate) fn make_tries(mut state: Fortuna, clock: u32, n: u64, d: u32) -> Draw
     requires { (d ≤ 64) × Passing state clock d }
     ensures { DrawsValue (tries (try_at clock) n d state) result × (result.emptied ≤ 32 * d) }
@@ -48,7 +48,7 @@ pub(crate) fn make_tries(mut state: Fortuna, clock: u32, n: u64, d: u32) -> Draw
 }
 
 // A value below n, with up to d tries at a reading of the clock.
-// Kept: (d) a refused draw written out, here and in metered: a function for it would have these three fields as its clause.
+// Kept: (d) a refused draw written out, here and in metered: `refused` of metered is above draws, and gives an Outcome.
 pub fn random_below(state: Fortuna, clock: u32, n: u64, d: u32) -> Draw
     ensures { GivesValue (step state (draw clock n d)) result.answer result.emptied result.next }
 {

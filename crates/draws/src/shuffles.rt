@@ -58,6 +58,7 @@ pub fn shuffle(state: Fortuna, clock: u32, list: &mut [u16]) -> Outcome<Fortuna>
     ensures { GivesBytes (step state (shuffle clock list.old)) result list.new }
 {
     let answer = state.shuffle_answer(clock, list);
+    // A list of one number or none needs no draw, so it is accepted without a key too.
     if answer.is_ok() && list.len() > 1 {
         return shuffle_list(state, clock, list);
     }

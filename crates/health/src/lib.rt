@@ -12,6 +12,9 @@ use crate::refusals::Cutoffs;
 use crate::sample::Tests;
 pub use refusals::Refusal;
 
+// The samples of a full window.
+const WINDOW: u32 = 512;
+
 // Between two samples: the last one and how often it has come in a row; the first of the window, how often it has come there, and how many
 // samples the window has.
 // Kept: (a) 0 for no sample seen, and no Option: C has this struct (fortuna_health), and its fresh state is all 0.

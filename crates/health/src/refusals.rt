@@ -2,13 +2,13 @@
 ghost use Rattle.std.specs.Prelude.{◌≡◌, not, ◌&&◌, ◌||◌, eqb, ltb};
 ghost use Rattle.health.specs.Calls.{code, code-above-0, out_of_range, malformed, checked};
 
-use crate::HealthState;
+use crate::{HealthState, WINDOW};
 use laws::Numbered;
 
 #[derive(Clone, Copy)]
 pub enum Refusal {
-    CutoffRange,
-    Malformed,
+    CutoffRange = 34,
+    Malformed = 35,
 }
 
 impl Numbered for Refusal {
@@ -17,10 +17,7 @@ impl Numbered for Refusal {
     ghost above_0 = { code-above-0 };
 
     fn number(self) -> u32 {
-        match self {
-            Refusal::CutoffRange => 34,
-            Refusal::Malformed => 35,
-        }
+        self as u32
     }
 }
 
@@ -53,8 +50,8 @@ impl Cutoffs {
         self.repetition <= state.run
             || self.proportion <= state.count
             || state.seen < state.count
-            || 512 <= state.seen
-            || is_empty(state)
+            || WINDOW <= state.seen
+            || is_uncounted(state)
             || is_stray(state.seen, state.first)
             || is_stray(state.run, state.last)
     }
@@ -64,11 +61,11 @@ impl Cutoffs {
 fn out_of_range(cutoff: u32) -> bool
     ensures { result ≡ out_of_range cutoff }
 {
-    cutoff < 2 || 512 < cutoff
+    !(2..=WINDOW).contains(&cutoff)
 }
 
 // Some samples seen, but count or run length 0.
-fn is_empty(state: HealthState) -> bool
+fn is_uncounted(state: HealthState) -> bool
     ensures { result ≡ (ltb 0 state.seen && (eqb state.count 0 || eqb state.run 0)) }
 {
     0 < state.seen && (state.count == 0 || state.run == 0)

@@ -3,7 +3,7 @@ ghost use Rattle.std.specs.Prelude.{◌≡◌, ◌+◌, ◌<◌, ◌≤◌, true
 ghost use Rattle.health.specs.Samples.{run_after, first_after, count_after, repetition_fails, proportion_fails, fails, noted, failure, test_from};
 
 use crate::refusals::Cutoffs;
-use crate::{Failure, HealthState};
+use crate::{Failure, HealthState, WINDOW};
 
 // What a call that is not refused goes on with: a state below its cutoffs.
 #[derive(Clone, Copy)]
@@ -113,7 +113,7 @@ impl Tests {
 fn closed(state: HealthState) -> HealthState
     ensures { result ≡ cond (eqb state.seen 512) (record state { first = 0; count = 0; seen = 0 }) state }
 {
-    if state.seen == 512 {
+    if state.seen == WINDOW {
         HealthState {
             first: 0,
             count: 0,

@@ -142,10 +142,11 @@ impl Keyed {
     {
         let place = input_pool(self.scheduler_key, self.step) as usize;
         let answer = self.event_answer(self.pools[place].length, source, data.len());
-        let mut emptied = 0;
-        if answer.is_ok() {
-            emptied = self.take(place, source, data);
-        }
+        let emptied = if answer.is_ok() {
+            self.take(place, source, data)
+        } else {
+            0
+        };
         Outcome {
             answer,
             emptied,

@@ -188,10 +188,11 @@ impl Fortuna {
     {
         let standing = self.standing(clock);
         let answer = standing.request_answer(out.len());
-        let mut emptied = 0;
-        if answer.is_ok() {
-            emptied = self.serve(standing.due, clock, out);
-        }
+        let emptied = if answer.is_ok() {
+            self.serve(standing.due, clock, out)
+        } else {
+            0
+        };
         Outcome {
             answer,
             emptied,
@@ -205,10 +206,11 @@ impl Fortuna {
     {
         let standing = self.standing(clock);
         let answer = standing.write_answer(seed);
-        let mut emptied = 0;
-        if answer.is_ok() {
-            emptied = self.serve(standing.due, clock, seed);
-        }
+        let emptied = if answer.is_ok() {
+            self.serve(standing.due, clock, seed)
+        } else {
+            0
+        };
         Outcome {
             answer,
             emptied,
@@ -222,11 +224,12 @@ impl Fortuna {
     {
         let standing = self.standing(clock);
         let answer = standing.update_answer(seed);
-        let mut emptied = 0;
-        if answer.is_ok() {
+        let emptied = if answer.is_ok() {
             self.generator = self.generator.reseed(seed).next;
-            emptied = self.serve(standing.due, clock, seed);
-        }
+            self.serve(standing.due, clock, seed)
+        } else {
+            0
+        };
         Outcome {
             answer,
             emptied,

@@ -5,23 +5,23 @@ use laws::Numbered;
 
 #[derive(Clone, Copy)]
 pub enum Refusal {
-    SourceOutOfRange,
-    PoolOutOfRange,
-    DataLength,
-    RequestTooLong,
-    SeedSize,
-    Malformed,
-    PoolFull,
-    Unseeded,
-    CounterSpent,
-    SlotRange,
-    TryRange,
-    NoneDrawn,
-    BlankSeed,
-    QuotasMalformed,
-    SourceNotListed,
-    OverAllowance,
-    StepsSpent,
+    SourceOutOfRange = 11,
+    PoolOutOfRange = 12,
+    DataLength = 13,
+    RequestTooLong = 14,
+    SeedSize = 15,
+    Malformed = 21,
+    PoolFull = 22,
+    Unseeded = 23,
+    CounterSpent = 24,
+    SlotRange = 31,
+    TryRange = 32,
+    NoneDrawn = 33,
+    BlankSeed = 36,
+    QuotasMalformed = 37,
+    SourceNotListed = 38,
+    OverAllowance = 39,
+    StepsSpent = 45,
 }
 
 impl Numbered for Refusal {
@@ -30,24 +30,6 @@ impl Numbered for Refusal {
     ghost above_0 = { code-above-0 };
 
     fn number(self) -> u32 {
-        match self {
-            Refusal::SourceOutOfRange => 11,
-            Refusal::PoolOutOfRange => 12,
-            Refusal::DataLength => 13,
-            Refusal::RequestTooLong => 14,
-            Refusal::SeedSize => 15,
-            Refusal::Malformed => 21,
-            Refusal::PoolFull => 22,
-            Refusal::Unseeded => 23,
-            Refusal::CounterSpent => 24,
-            Refusal::SlotRange => 31,
-            Refusal::TryRange => 32,
-            Refusal::NoneDrawn => 33,
-            Refusal::BlankSeed => 36,
-            Refusal::QuotasMalformed => 37,
-            Refusal::SourceNotListed => 38,
-            Refusal::OverAllowance => 39,
-            Refusal::StepsSpent => 45,
-        }
+        self as u32
     }
 }

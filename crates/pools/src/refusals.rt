@@ -17,7 +17,7 @@ const MAX_SOURCE: u32 = 65535;
 const LAST_POOL: u32 = 31;
 
 // The bytes of a seed.
-pub(crate) const SEED_SIZE: usize = 64;
+const SEED_SIZE: usize = 64;
 
 // The largest n of a draw: 2^32.
 const MAX_BELOW: u64 = 4294967296;
@@ -241,6 +241,6 @@ impl Standing {
             }
             return Ok(());
         }
-        self.output_answer(192 * (count - 1) as u32)
+        self.output_answer(3 * MAX_TRIES * (count - 1) as u32)
     }
 }

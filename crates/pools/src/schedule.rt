@@ -9,7 +9,7 @@ use hash::Hasher;
 
 // Empties the pools that reseed `number` uses, puts their digests in front of `seed`, and says how many they are. They are the first ones:
 // a power of two divides the number only where all lower ones do.
-// Kept: (d) a count beside the buffer: of the part that is filled the caller, which tells the count, would have to divide the length.
+// Kept: (d) a count beside the buffer: if the filled part were given back, the caller would get the count by a division.
 pub(crate) fn collect_digests(pools: &mut [Hasher; 32], number: u32, seed: &mut [u8; 1024]) -> usize
     requires { any_pool malformed_pool pools.old ≡ false }
     ensures { Collects pools.old number pools.new seed.new result }

@@ -17,6 +17,7 @@ static MASKS: [u8; 127] = [
 ];
 
 // Whether the bytes from `at` on are zero.
+// Kept: (a) a loop over masks, and no `all_zero(&tail[at..])`: no branch inside a tail (docs/decisions/pools.md).
 fn is_zero_from(tail: &[u8; 64], at: usize) -> bool
     requires { at < 64 }
     ensures { result ≡ all_zero (drop at tail.now) }

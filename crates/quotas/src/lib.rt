@@ -4,8 +4,7 @@
 ghost use Rattle.std.specs.Prelude.{◌≡◌};
 ghost use Rattle.pools.specs.Promises.{number};
 ghost use Rattle.quotas.specs.Records.{place_from, quotas_number, cleared};
-ghost use Rattle.quotas.specs.Charges.{comes_first, judged, unlisted_of, charge_number, charge_list, cleared_after};
-ghost use Rattle.quotas.specs.Charges.{first_bound, start_at, bound_after};
+ghost use Rattle.quotas.specs.Charges.{comes_first, judged, unlisted_of, charge_number, charge_list, cleared_after, first_bound, start_at, bound_after};
 
 use pools::Refusal;
 
@@ -64,6 +63,7 @@ fn comes_first(number: u32) -> bool
 }
 
 // The record charged with the cost of an event that has a number, or 0, without it; or the number that refuses the event.
+// Kept: (a) numbers for refusals, here, in unlisted and in charge: the clause, by `charge_number`, holds for any number of an event.
 #[tactic(auto, unfolding(crate::specs::Charges::judged))]
 fn judge(quota: Quota, cost: u32, number: u32) -> Result<Quota, u32>
     ensures { result ≡ judged quota cost number }
@@ -92,7 +92,6 @@ fn unlisted(number: u32) -> u32
 }
 
 // Finds the source's record, and charges it where the event is accepted: `number` is the event's, without 38 and 39.
-// Kept: (a) numbers for refusals, here, in judge and in unlisted: the clause, by `charge_number`, holds for any number of an event.
 pub fn charge(list: &mut [Quota], source: u32, cost: u32, number: u32) -> u32
     ensures { (result ≡ charge_number list.old source cost number)
         × (list.new ≡ charge_list list.old source cost number) }
@@ -110,8 +109,8 @@ pub fn charge(list: &mut [Quota], source: u32, cost: u32, number: u32) -> u32
     }
 }
 
-// A check keeps a bound as it goes along the list: 1 more than the largest source so far, and 0 before the first record. A source above all
-// before it is new: it needs no search among them.
+// A check keeps a bound as it goes along the list: the least number above every source so far, so 0 before the first record. A source that is
+// not below it is new: it needs no search among them.
 
 // The bound before the first record, of a list that is not too long.
 #[tactic(auto, unfolding(crate::specs::Charges::first_bound, crate::specs::Records::max_quotas))]

@@ -2,12 +2,12 @@
 -- Assumes nothing.
 use mathlib.Core.Path.{◌≡◌, refl, ap, ap₂, sym, ◌∙◌}
 use mathlib.Core.Bool.{Bool, true, false, cond, ◌||◌, true≢false}
-use mathlib.Core.List.{List, [], ◌∷◌}
-use Prim.Native.Nat.{ℕ, ◌+◌, ◌-◌, ◌<◌, ◌≤◌, zero-le}
+use mathlib.Core.List.{List, [], ◌∷◌, nil≢cons}
+use Prim.Native.Nat.{ℕ, zero, suc, ◌+◌, ◌-◌, ◌<◌, ◌≤◌, zero-le}
 use native.Mathlib.Numerals.{add-one}
 use native.Mathlib.Omega.{arith}
 use lib.Dec.{eqb}
-use Rattle.std.specs.List.{list_any}
+use Rattle.std.specs.List.{list_any, enumerate_from}
 use Rattle.laws.proofs.Copy.{part_end}
 use lib.ListN.{length, get_or, take, drop, drop_of_length-le}
 use lib.Seq.{drop-cons}
@@ -88,3 +88,21 @@ module _ (s : List ℕ) (i : ℕ) (fits : i < length s) (b : Bool)
 pub repeat-end : (s : List ℕ) (i : ℕ) → length s ≤ i → has_repeat (drop i s) ≡ false
 unfolding has_repeat
 repeat-end s i h = rw (drop_of_length-le s h)
+
+drop-next : (s : List ℕ) (i x : ℕ) (xs : List ℕ) → drop i s ≡ x ∷ xs → drop (suc i) s ≡ xs
+drop-next [] zero x xs e = absurd (nil≢cons e)
+drop-next [] (suc i) x xs e = absurd (nil≢cons e)
+drop-next (y ∷ ys) zero x xs e = ap (drop 1) e
+drop-next (y ∷ ys) (suc i) x xs e = drop-next ys i x xs e
+
+drop-rest : (s : List ℕ) (i x : ℕ) (xs : List ℕ) → drop i s ≡ x ∷ xs → drop (i + 1) s ≡ xs
+drop-rest s i x xs e = rw (add-one i) (drop-next s i x xs e)
+
+-- whether one of the numbers with their places stands behind its place too
+pub any-behind : (s xs : List ℕ) (i : ℕ) → drop i s ≡ xs → list_any (λ (p : ℕ × ℕ). list_any (λ (y : ℕ). eqb y p.1) (take (length s - (p.0 + 1)) (drop (p.0 + 1) s))) (enumerate_from i xs) ≡ has_repeat xs
+unfolding has_repeat
+any-behind s [] i e = refl
+any-behind s (x ∷ xs) i e =
+    let rest = drop-rest s i x xs e in
+    let here : list_any (λ (y : ℕ). eqb y x) (take (length s - (i + 1)) (drop (i + 1) s)) ≡ is_in x xs = rw part_end (found x (drop (i + 1) s)) ∙ ap (is_in x) rest in
+    ap₂ (λ (a b : Bool). a || b) here (any-behind s xs (i + 1) rest)

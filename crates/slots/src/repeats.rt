@@ -6,10 +6,7 @@ ghost use Rattle.slots.specs.Shuffle.{has_repeat};
 pub fn has_repeat(list: &[u16]) -> bool
     ensures { result ≡ has_repeat list.now }
 {
-    for (i, number) in list.iter().enumerate() {
-        if list[i + 1..].contains(number) {
-            return true;
-        }
-    }
-    false
+    list.iter()
+        .enumerate()
+        .any(|(i, number)| list[i + 1..].contains(number))
 }

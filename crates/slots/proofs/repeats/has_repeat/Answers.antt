@@ -1,20 +1,17 @@
-use mathlib.Core.Path.{refl, sym, ◌∙◌}
-use native.Mathlib.Omega.{arith}
-use Rattle.slots.proofs.NoRepeat.{repeat-here, repeat_past, repeat-end}
+use Rattle.std.proofs.Common.{◌∙◌, rules, tests, drop, ◌+◌, refl, ap}
+use Rattle.std.proofs.lemmas.Iterator.{YieldsList-from_slice}
+use Rattle.std.proofs.lemmas.Iterator.Consumers.{YieldsList-from_enumerate}
+use Rattle.std.proofs.lemmas.Iterator.Search.{any_from_yields_List}
+use Rattle.std.specs.List.{list_any}
+use lib.Dec.{eqb}
+use lib.ListN.{length, take}
+use Prim.Native.Nat.{◌-◌}
+use Rattle.slots.proofs.NoRepeat.{any-behind}
 use Rattle.slots.proofs.repeats.has_repeat.Goals as goal
 
-pub loop-i-init : goal.loop-i-init
-loop-i-init c = refl
-
-pub returns-then-contains : goal.returns-then-contains
-returns-then-contains c =
-    let l = c.loop-i in
-    sym (l.invariant ∙ repeat-here c.args.list.now l.i (omega arith) _ c.contains.ensures.value c.if-contains.true)
-
-pub loop-i-preserved : goal.loop-i-preserved
-loop-i-preserved c =
-    let l = c.loop-i in
-    l.invariant ∙ repeat_past c.args.list.now l.i (omega arith) _ c.contains.ensures.value c.if-contains.false
-
 pub returns : goal.returns
-returns c = sym (c.loop-i.invariant ∙ repeat-end c.args.list.now c.loop-i.i (omega arith))
+returns c =
+    let list = c.args.list.now in
+    any_from_yields_List (λ p. list_any (λ y. eqb y p.1) (take (length list - (p.0 + 1)) (drop (p.0 + 1) list))) _ _ c.any.result c.any.ensures.ran
+    (YieldsList-from_enumerate {s = c.enumerate.result} (YieldsList-from_slice list (ap (λ s. s.rest.now) c.enumerate.ensures.source ∙ c.iter.ensures.rest)) c.enumerate.ensures.count) (λ x b q k. search (rules, tests))
+    ∙ any-behind list list 0 refl
