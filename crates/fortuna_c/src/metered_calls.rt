@@ -3,7 +3,7 @@ ghost use Rattle.pools.specs.Calls.{event, request, update, write, draw, shuffle
 ghost use Rattle.fortuna_c.specs.Outcomes.{MeteredLeaves, MeteredLeavesBytes, MeteredLeavesValue};
 
 use crate::slot_draws::{FortunaDraw, draw_stored};
-use crate::station::{FortunaAnswer, stored, put_pool};
+use crate::station::{FortunaAnswer, put_pool, stored};
 use laws::number_of;
 use pools::Fortuna;
 use quotas::Quota;
