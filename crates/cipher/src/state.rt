@@ -36,7 +36,7 @@ fn mixed_column(a: u8, b: u8, c: u8, d: u8) -> [u8; 4]
 }
 
 // Column after column, at constant places.
-// Kept: (c) written out: of the array behind a loop over its `as_chunks_mut` a proof knows no elements.
+// Kept: (c) written out: behind a loop over `as_chunks_mut` no element is known; by `array::from_fn` over columns the places were not proved.
 #[tactic(auto, unfolding(crate::specs::Aes::mix_columns, crate::specs::Aes::mixed_byte, laws::specs::Lists::tabulate))]
 pub(crate) fn mix_columns(state: [u8; 16]) -> [u8; 16]
     ensures { result ≡ mix_columns state }

@@ -24,6 +24,7 @@ const MAX_REQUEST: usize = 65536;
 const RESEED_INTERVAL: u64 = 1 << 48;
 
 // Key, V and the reseed counter, which is 0 before the first seeding. Any bytes may stand in it.
+// Kept: (a) key and v side by side, and no Working: C has this struct.
 // Kept: (a) 0 for never seeded, and no Option: C has this struct, and `fresh` and `never_seeded` of specs say 0.
 #[repr(C)]
 #[derive(Clone, Copy)]
