@@ -90,7 +90,7 @@ pub fn seed_input(seed: &[u8]) -> Result<(), Refusal>
 }
 
 // Whether the 64 bytes are all equal. All of them are looked at, whatever the first ones are: a seed is secret.
-// Kept: (a) a loop to a fixed end: of `iter().fold` the compiler made tests that end at the first other byte (tests/compiled/key_bits).
+// Kept: (a) a loop to a fixed end: `iter().fold` and `for byte in seed` became tests that end at the first other byte (tests/compiled/key_bits).
 fn is_blank(seed: &[u8]) -> bool
     requires { length seed.now ≡ 64 }
     ensures { result ≡ blank seed.now }
