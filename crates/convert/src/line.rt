@@ -52,7 +52,12 @@ fn put(front: &[u8], rest: &[u8], ended: bool, out: &mut [u8]) -> Result<usize, 
 }
 
 // A line's text and end: how many bytes were written.
-pub(crate) fn convert_line(text: &[u8], ended: bool, wide: bool, out: &mut [u8]) -> Result<usize, Refusal>
+pub(crate) fn convert_line(
+    text: &[u8],
+    ended: bool,
+    wide: bool,
+    out: &mut [u8],
+) -> Result<usize, Refusal>
     ensures { ConvertsLine wide (line_with text.now ended) result out.old out.new }
 {
     match action_of(frame_of_text(text), wide)? {
