@@ -206,7 +206,8 @@ module _ (r x rest : List ℕ) (i : ℕ) (cut : r ≡ x ++ rest) (size : length 
   part-ended t =
       sym (take_at x rest (length x) refl)
       ∙ ap (take (length x)) (sym cut ∙ first_ended r t ∙ sym (append_assoc (first_line r) (line_feed ∷ []) (drop (used_by r) r)))
-      ∙ take_at (first_line r ++ (line_feed ∷ [])) (drop (used_by r) r) (length x) (length-append (first_line r) (line_feed ∷ []) ∙ sym (part-used ∙ used-ended r t))
+      ∙ take_at (first_line r ++ (line_feed ∷ [])) (drop (used_by r) r) (length x)
+      (length-append (first_line r) (line_feed ∷ []) ∙ sym (part-used ∙ used-ended r t))
 
   part-last : has_line_feed r ≡ false → x ≡ first_line r
   part-last t =

@@ -20,13 +20,9 @@ use Rattle.convert.specs.declared.refusal.Refusal.TheVariants.{NoRoom}
 use Rattle.std.specs.Prelude.{Ok, Err}
 
 -- how long an end is
-pub end-one : (ended : Bool) → ended ≡ true → length (end_of ended) ≡ 1
+end-one : (ended : Bool) → ended ≡ true → length (end_of ended) ≡ 1
 unfolding end_of
 end-one ended e = rw e
-
-pub end_none : (ended : Bool) → ended ≡ false → length (end_of ended) ≡ 0
-unfolding end_of
-end_none ended e = rw e
 
 module _ (out : List ℕ) (at : ℕ) (ended : Bool) where
   pub end-room : at + length (end_of ended) ≤ length out → ended ≡ true → at < length out

@@ -72,7 +72,7 @@ ConvertsLine wide l r before after =
 abbrev pub first_of : List ℕ → Line
 first_of rest = line_with (first_line rest) (has_line_feed rest)
 
--- a part of a log is that line and its end, and something is left
+-- what is left of a log, and it is not empty, begins with a part: that line and its end; `behind` is left then
 pub record FirstPart (rest part text : List ℕ) (ended : Bool) (behind : List ℕ) : Type 0 where
   pub line-is : line_with text ended ≡ first_of rest
   pub used-is : length part ≡ used_by rest
