@@ -3,14 +3,13 @@
 use mathlib.Core.Path.{◌≡◌, refl, ap, ap₂, sym, ◌∙◌}
 use mathlib.Core.Bool.{Bool, true, false, cond, ◌||◌, true≢false}
 use mathlib.Core.List.{List, [], ◌∷◌, nil≢cons}
-use Prim.Native.Nat.{ℕ, zero, suc, ◌+◌, ◌-◌, ◌<◌, ◌≤◌, zero-le}
+use Prim.Native.Nat.{ℕ, zero, suc, ◌+◌, ◌-◌, ◌≤◌, zero-le}
 use native.Mathlib.Numerals.{add-one}
 use native.Mathlib.Omega.{arith}
 use lib.Dec.{eqb}
 use Rattle.std.specs.List.{list_any, enumerate_from}
 use Rattle.laws.proofs.Copy.{part_end}
-use lib.ListN.{length, get_or, take, drop, drop_of_length-le}
-use lib.Seq.{drop-cons}
+use lib.ListN.{length, take, drop}
 use borrow.Author.Tests.{eq-eqb, ne_eqb, eqb-true}
 use Rattle.laws.specs.Lists.{count_of}
 use Rattle.laws.proofs.Cases.{neither}
@@ -69,26 +68,6 @@ found x (y ∷ ys) = ap₂ (λ (a b : Bool). a || b) (same-test x y (eqb x y) re
 
 -- ---- a repeat in what is left of a list
 
-repeat-next : (s : List ℕ) (i : ℕ) → i < length s → has_repeat (drop i s) ≡ (is_in (get_or s i 0) (drop (i + 1) s) || has_repeat (drop (i + 1) s))
-unfolding has_repeat
-repeat-next s i h = rw (add-one i, drop-cons s i 0 h)
-
--- b is whether the number at i stands behind it
-module _ (s : List ℕ) (i : ℕ) (fits : i < length s) (b : Bool)
-    (looked : b ≡ list_any (λ (y : ℕ). eqb y (get_or s i 0)) (take (length s - (i + 1)) (drop (i + 1) s))) where
-  behind : is_in (get_or s i 0) (drop (i + 1) s) ≡ b
-  behind = sym (looked ∙ rw part_end (found (get_or s i 0) (drop (i + 1) s)))
-
-  pub repeat-here : b ≡ true → has_repeat (drop i s) ≡ true
-  repeat-here e = rw (repeat-next s i fits, behind, e)
-
-  pub repeat_past : b ≡ false → has_repeat (drop i s) ≡ has_repeat (drop (i + 1) s)
-  repeat_past e = rw (repeat-next s i fits, behind, e)
-
-pub repeat-end : (s : List ℕ) (i : ℕ) → length s ≤ i → has_repeat (drop i s) ≡ false
-unfolding has_repeat
-repeat-end s i h = rw (drop_of_length-le s h)
-
 drop-next : (s : List ℕ) (i x : ℕ) (xs : List ℕ) → drop i s ≡ x ∷ xs → drop (suc i) s ≡ xs
 drop-next [] zero x xs e = absurd (nil≢cons e)
 drop-next [] (suc i) x xs e = absurd (nil≢cons e)
@@ -99,7 +78,9 @@ drop-rest : (s : List ℕ) (i x : ℕ) (xs : List ℕ) → drop i s ≡ x ∷ xs
 drop-rest s i x xs e = rw (add-one i) (drop-next s i x xs e)
 
 -- whether one of the numbers with their places stands behind its place too
-pub any-behind : (s xs : List ℕ) (i : ℕ) → drop i s ≡ xs → list_any (λ (p : ℕ × ℕ). list_any (λ (y : ℕ). eqb y p.1) (take (length s - (p.0 + 1)) (drop (p.0 + 1) s))) (enumerate_from i xs) ≡ has_repeat xs
+pub any-behind : (s xs : List ℕ) (i : ℕ) → drop i s ≡ xs
+    → list_any (λ (p : ℕ × ℕ). list_any (λ (y : ℕ). eqb y p.1) (take (length s - (p.0 + 1)) (drop (p.0 + 1) s))) (enumerate_from i xs)
+    ≡ has_repeat xs
 unfolding has_repeat
 any-behind s [] i e = refl
 any-behind s (x ∷ xs) i e =
