@@ -99,7 +99,8 @@ pub output-some : (emptied : ℕ) (bytes out first part : List ℕ) (k : ℕ) �
     → k ≡ length first - 6
     → first ≡ overwrite out (front emptied (space ∷ []))
     → part ≡ encode_hex bytes ++ drop (2 * length bytes) (take k (drop 6 first))
-    → Shown (output_line 0 emptied bytes) (6 + 2 * length bytes + 1) out (set (take 6 first ++ (part ++ drop k (drop 6 first))) (6 + 2 * length bytes) line_feed)
+    → Shown (output_line 0 emptied bytes) (6 + 2 * length bytes + 1) out
+    (set (take 6 first ++ (part ++ drop k (drop 6 first))) (6 + 2 * length bytes) line_feed)
 output-some emptied [] out first part k z h l e f = absurd (z refl)
 output-some emptied (b ∷ bytes) out first part k z h l e f =
     rw (output-done emptied (b ∷ bytes), l) (unfold decimal spaced in some-shown emptied b bytes out h first part e (rw l at f))

@@ -85,5 +85,6 @@ unfolding has_repeat
 any-behind s [] i e = refl
 any-behind s (x ∷ xs) i e =
     let rest = drop-rest s i x xs e in
-    let here : list_any (λ (y : ℕ). eqb y x) (take (length s - (i + 1)) (drop (i + 1) s)) ≡ is_in x xs = rw part_end (found x (drop (i + 1) s)) ∙ ap (is_in x) rest in
+    let here : list_any (λ (y : ℕ). eqb y x) (take (length s - (i + 1)) (drop (i + 1) s)) ≡ is_in x xs =
+    rw part_end (found x (drop (i + 1) s)) ∙ ap (is_in x) rest in
     ap₂ (λ (a b : Bool). a || b) here (any-behind s xs (i + 1) rest)
