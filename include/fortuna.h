@@ -44,7 +44,7 @@
        fortuna_write                   11,776
        fortuna_random_below            37,632
        fortuna_shuffle                 45,312
-       fortuna_metered_event            5,888
+       fortuna_metered_event            1,792
        fortuna_metered_request          7,936
        fortuna_metered_update          19,200
        fortuna_metered_write            7,936

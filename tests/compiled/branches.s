@@ -72,6 +72,36 @@
     ret
 
 # passes
+"a counter beside a number shifted by a part of it":
+    mov eax, 8
+1:  mov ecx, eax
+    shr ecx, 3
+    mov edx, 1
+    shl dl, cl
+    xor BYTE PTR [rdi+rax], dl
+    inc rax
+    cmp rax, 0x3c
+    jne 1b
+    ret
+
+# jne: is decided by data
+"a number shifted by data":
+    mov ecx, edi
+    mov eax, 8
+    shl eax, cl
+    cmp eax, 0x10
+    jne 1f
+1:  ret
+
+# jne: is decided by data
+"data shifted by a number":
+    mov ecx, 3
+    shl edi, cl
+    cmp edi, 0x10
+    jne 1f
+1:  ret
+
+# passes
 "vectors shifted by 27":
     psllq xmm2, 0x1b
     psrld xmm1, 0x1b

@@ -145,6 +145,9 @@ def computed(account, step):
     elif name in SUMS and (name != "imul" or len(operands) > 1) or name in SHIFTS and operands[-1] != "cl":
         account.write(operands[0], constant or itself)
         account.mark(FLAGS, constant or itself)
+    elif name in SHIFTS and len(operands) == 2:  # by cl, where a shift by 0 leaves the flags as they were
+        account.write(operands[0], constant)
+        account.mark(FLAGS, False)
     elif name in TURNS or name in BITS and operands[0] in REGISTERS:  # in memory a bit may lie outside the operand
         account.write(operands[0], constant)
         account.mark(FLAGS, False)
