@@ -450,22 +450,22 @@ CASES_OF = "slots"
 CASES = {
     "says_the_same": (
         "NOT REFUSED",
-        "n and 2^k are compared the other way round, which says the same\n"
-        "file: src/bits.rt\nold: if n <= 1 << k {\nnew: if 1 << k >= n {\n",
+        "n stands in brackets, which says the same\nfile: src/bits.rt\nold: n.min(1 << 32)\nnew: (n).min(1 << 32)\n",
     ),
     "says_the_same_of_a_number": (
         "NOT REFUSED",
-        "n takes another test, which says the same\n"
-        "file: src/bits.rt\nold: if n <= 1 << k {\nnew: if n < (1 << k) + 1 {\n",
+        "the number of the bytes stands in brackets, which says the same\n"
+        "file: src/bits.rt\nold: u64::from(u32::from_le_bytes(bytes)) %\nnew: (u64::from(u32::from_le_bytes(bytes))) %\n",
     ),
     "wrong": (
         "refused, as it must be",
-        "k is one too large where n is a power of 2\nfile: src/bits.rt\nold: if n <= 1 << k {\nnew: if n < 1 << k {\n",
+        "k is one too large where n is a power of 2\n"
+        "file: src/bits.rt\nold: n.min(1 << 32)\nnew: (n + 1).min(1 << 32)\n",
     ),
     "wrong_under_a_new_name": (
         "refused, as it must be",
-        "k is one too large where n is a power of 2, by a test the other way round\n"
-        "file: src/bits.rt\nold: if n <= 1 << k {\nnew: if 1 << k > n {\n",
+        "an empty list has a repeat, by a test that no proof file names\n"
+        "file: src/repeats.rt\nold:     list.iter()\nnew:     if list.is_empty() { return true; } list.iter()\n",
     ),
     "text_not_there": (
         "BAD EDIT: an 'old:' text is 0 times",
@@ -473,7 +473,7 @@ CASES = {
     ),
     "no_rattle": (
         "BAD EDIT: it did not reach the prover",
-        "a parenthesis is missing\nfile: src/bits.rt\nold: if n <= 1 << k {\nnew: if n <= (1 << k {\n",
+        "a parenthesis is missing\nfile: src/bits.rt\nold: n.min(1 << 32)\nnew: n.min((1 << 32)\n",
     ),
     "misfit": (
         "BAD EDIT: a proof file does not fit the code",
@@ -488,7 +488,7 @@ CASES = {
     ),
     "no_first_line": (
         "BAD EDIT: its first line must say",
-        "file: src/bits.rt\nold: if n <= power(k) {\nnew: if n < power(k) {\n",
+        "file: src/bits.rt\nold: n.min(1 << 32)\nnew: n.min(1 << 31)\n",
     ),
     "of_a_proof": (
         "BAD EDIT: proofs/bits/bits_for/Answers.antt is no file under",
