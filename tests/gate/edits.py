@@ -460,7 +460,7 @@ CASES = {
     "wrong": (
         "refused, as it must be",
         "k is one too large where n is a power of 2\n"
-        "file: src/bits.rt\nold: n.min(1 << 32)\nnew: (n + 1).min(1 << 32)\n",
+        "file: src/bits.rt\nold: n.min(1 << 32).next\nnew: (n.min(1 << 32) + 1).next\n",
     ),
     "wrong_under_a_new_name": (
         "refused, as it must be",
