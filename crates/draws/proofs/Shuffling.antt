@@ -2,15 +2,12 @@
 -- Assumes nothing.
 use mathlib.Core.Path.{◌≡◌, refl, sym, ap, ◌∙◌, subst}
 use mathlib.Core.Bool.{Bool, true, false, cond}
-use mathlib.Core.List.{List, [], ◌∷◌}
+use mathlib.Core.List.{List}
 use Prim.Native.Nat.{ℕ, zero, suc, ◌+◌, ◌-◌, ◌*◌, ◌≤◌, ◌<◌}
 use native.Mathlib.Nat.{zero-add, not-suc-le-zero}
 use native.Mathlib.Omega.{arith}
 use lib.Dec.{eqb, ltb}
-use lib.ListN.{length}
-use Rattle.std.proofs.lemmas.List.{get_or_default}
 use borrow.Author.Tests.{ltb-true}
-use Rattle.std.specs.List.{swap}
 use Rattle.laws.proofs.Cases.{split}
 use Rattle.slots.specs.Fair.{try_value}
 use Rattle.slots.specs.Shuffle.{exchange}
@@ -40,12 +37,6 @@ tries-below {S} serve n (suc d) s f =
     split (λ (o : Drawn S). o.found ≡ true → o.value < n) (ltb (try_value n (serve s).buffer) n)
     (λ t g. ltb-true (try_value n (serve s).buffer) n t)
     (λ t g. tries-below serve n d (serve s).next g) f
-
--- the library's exchange of two entries
-pub swap-is : (xs : List ℕ) (i j : ℕ) → i < length xs → j < length xs → swap xs i j ≡ exchange i j xs
-unfolding exchange
-swap-is [] i j h k = absurd (not-suc-le-zero h)
-swap-is (x ∷ xs) i j h k = rw (get_or_default (x ∷ xs) i x 0 h, get_or_default (x ∷ xs) j x 0 k)
 
 -- ---- e pools were emptied before what is left of a shuffle
 

@@ -1,5 +1,6 @@
 // Shuffles of a list by draws.
-ghost use Rattle.std.specs.Prelude.{◌-◌, ◌*◌, ◌≤◌, length};
+ghost use Rattle.std.specs.Prelude.{◌≡◌, ◌-◌, ◌*◌, ◌≤◌, ◌<◌, length};
+ghost use Rattle.slots.specs.Shuffle.{exchange};
 ghost use Rattle.pools.specs.Refusals.{max_tries};
 ghost use Rattle.pools.specs.Draws.{shuffle_from, shuffled, try_at};
 ghost use Rattle.pools.specs.Calls.{shuffle, step};
@@ -9,6 +10,18 @@ ghost use Rattle.draws.specs.Drawing.{DrawsList};
 
 use crate::draw::make_tries;
 use pools::{Fortuna, MAX_TRIES, Outcome};
+
+// The entries at i and j change places.
+// Kept: (a) by hand, and no `swap`: that one asks whether the two places are one, and a place drawn is secret (tests/compiled/key_bits).
+#[tactic(auto, unfolding(slots::specs::Shuffle::exchange))]
+fn exchange(order: &mut [u16], i: usize, j: usize)
+    requires { (i < length order.old) × (j < length order.old) }
+    ensures { order.new ≡ exchange i j order.old }
+{
+    let (a, b) = (order[i], order[j]);
+    order[i] = b;
+    order[j] = a;
+}
 
 // From the last place down to 1, the entry at p changes places with the one at the place drawn below p + 1. A draw without a value ends it.
 fn shuffle_from(order: &mut [u16], mut state: Fortuna, clock: u32) -> Outcome<Fortuna>
@@ -21,7 +34,7 @@ fn shuffle_from(order: &mut [u16], mut state: Fortuna, clock: u32) -> Outcome<Fo
         emptied += draw.emptied;
         state = draw.next;
         match draw.answer {
-            Ok(value) => order.swap(p, value as usize),
+            Ok(value) => exchange(order, p, value as usize),
             Err(refusal) => {
                 return Outcome {
                     answer: Err(refusal),

@@ -5,7 +5,7 @@ use Rattle.pools.specs.Draws.{shuffle_from, try_at}
 use Rattle.pools.proofs.Checks.{mapped-long}
 use Rattle.pools.proofs.Numbers.{tested}
 use Rattle.pools.proofs.Passing.{passing-fewer}
-use Rattle.draws.proofs.Shuffling.{left-whole, place-missed, place-drawn, place-next, place-last, ready-below, swap-is}
+use Rattle.draws.proofs.Shuffling.{left-whole, place-missed, place-drawn, place-next, place-last, ready-below}
 use Rattle.draws.proofs.shuffles.shuffle_from.Goals as goal
 
 pub loop-p-init : goal.loop-p-init
@@ -34,8 +34,8 @@ returns-in-Err c =
     (tested false draw.result.answer (rw c.in-Err.is)) refl in
     (rw c.in-Err.is at missed.0, missed.1, missed.2, missed.3)
 
-pub swap-requires-clause-b_in_bounds : goal.swap-requires-clause-b_in_bounds
-swap-requires-clause-b_in_bounds c =
+pub exchange-requires : goal.exchange-requires
+exchange-requires c =
     let at = c.loop-p in
     let a = c.args in
     let draw = c.make_tries-draw in
@@ -45,7 +45,7 @@ swap-requires-clause-b_in_bounds c =
     let low : c.in-Ok.value < at.p - 1 + 1 =
     rw c.in-Ok.is at
     (place-drawn a.clock (at.p - 1) at.emptied whole at.order at.state at.invariant.left draw.result true (omega arith) draw.ensures.0 done refl) in
-    omega (arith, at.auto.p)
+    (omega (arith, at.auto.p), omega (arith, at.auto.p))
 
 pub loop-p-preserved : goal.loop-p-preserved
 loop-p-preserved c =
@@ -59,13 +59,12 @@ loop-p-preserved c =
     let low : c.in-Ok.value < at.p - 1 + 1 =
     rw c.in-Ok.is at
     (place-drawn a.clock (at.p - 1) at.emptied whole at.order at.state at.invariant.left draw.result true some draw.ensures.0 done refl) in
-    let changed = swap-is at.order (at.p - 1) c.in-Ok.value (omega (arith, at.auto.p)) (omega (arith, at.auto.p)) in
     record {
       emptied = omega arith;
       ready = ready-below at.state a.clock (at.p - 1) draw.result some draw.ensures.0 at.invariant.ready;
       left =
           place-next a.clock (at.p - 1) at.emptied whole at.order at.state at.invariant.left draw.result true some draw.ensures.0 done _ refl
-          (rw (c.swap.ensures.after, c.in-Ok.is) changed);
+          (rw c.in-Ok.is c.exchange.ensures);
     }
 
 pub returns : goal.returns
