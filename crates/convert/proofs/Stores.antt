@@ -4,12 +4,13 @@ use mathlib.Core.Path.{◌≡◌, refl, sym, ap, ◌∙◌}
 use mathlib.Core.Bool.{Bool, true, false}
 use mathlib.Core.List.{List, [], ◌++◌, append-nil, append_assoc}
 use Prim.Native.Nat.{ℕ, ◌+◌, ◌-◌, ◌≤◌, ◌<◌}
-use native.Mathlib.Nat.{add-zero, le_of_eq}
+use native.Mathlib.Nat.{zero-add, add-zero, le_of_eq}
 use native.Mathlib.Numerals.{add-one}
 use native.Mathlib.Omega.{arith}
 use lib.Dec.{ltb}
-use lib.ListN.{length, take, drop, set, length-append, length-drop, take-append-drop, drop_of_length-le}
+use lib.ListN.{length, get_or, take, drop, set, length-append, length-drop, take-append-drop, drop_of_length-le}
 use lib.Seq.{set_split, take_at, drop_at, drop-drop}
+use Rattle.std.proofs.lemmas.List.Edits.{paste_more}
 use borrow.Author.Tests.{lt-ltb, le-ltb}
 use Rattle.laws.specs.Lists.{overwrite}
 use Rattle.laws.proofs.Copy.{overwrite-fits, part_end}
@@ -18,6 +19,12 @@ use Rattle.convert.specs.Logs.{end_of}
 use Rattle.convert.specs.Promises.{StoresText, PartsStored, EndStored}
 use Rattle.convert.specs.declared.refusal.Refusal.TheVariants.{NoRoom}
 use Rattle.std.specs.Prelude.{Ok, Err}
+
+-- one element more of s is copied to the front of out
+pub copied-more : (out s d : List ℕ) (i : ℕ) → d ≡ take i s ++ drop i out → i < length s → i < length out
+    → set d i (get_or s i 0) ≡ take (i + 1) s ++ drop (i + 1) out
+copied-more out s d i e h h' =
+    ap (λ (l : List ℕ). set l i (get_or s i 0)) e ∙ simp zero-add at (paste_more out 0 s i 0 (simp zero-add h') h)
 
 -- how long an end is
 end-one : (ended : Bool) → ended ≡ true → length (end_of ended) ≡ 1

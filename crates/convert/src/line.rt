@@ -1,12 +1,13 @@
 // One line into a lent buffer, as a frame of the wanted kind.
 ghost use Rattle.std.specs.Prelude.{◌≡◌, ◌++◌, ◌+◌, ◌≤◌, length};
+ghost use Rattle.laws.specs.Lists.{overwrite};
 ghost use Rattle.convert.specs.Logs.{end_of, line_with};
 ghost use Rattle.convert.specs.Promises.{ConvertsLine, StoresText, PartsStored, EndStored};
 
 use crate::action::{Action, action_of};
 use crate::refusal::Refusal;
 use bench::line::frame_of_text;
-use laws::{after, overwrite};
+use laws::after;
 
 // How many characters end a line.
 #[tactic(auto, unfolding(crate::specs::Logs::end_of))]
@@ -26,13 +27,24 @@ fn store_end(ended: bool, at: usize, out: &mut [u8])
     }
 }
 
+// The first characters of out become those of s, as many as there is room for.
+// Kept: (a) beside `overwrite` of laws, as a loop: between two lent slices that one calls memmove, which the archive may not need (fortuna.h).
+fn copy_in(out: &mut [u8], s: &[u8])
+    ensures { out.new ≡ overwrite out.old s.now }
+{
+    let n = s.len().min(out.len());
+    for (i, c) in s[..n].iter().enumerate() {
+        out[i] = *c;
+    }
+}
+
 // One text behind the other, at the front.
 fn store_parts(front: &[u8], rest: &[u8], out: &mut [u8])
     requires { length front.now + length rest.now ≤ length out.old }
     ensures { PartsStored front.now rest.now out.old out.new }
 {
-    overwrite(out, front);
-    overwrite(&mut out[front.len()..], rest);
+    copy_in(out, front);
+    copy_in(&mut out[front.len()..], rest);
 }
 
 // A text in two parts and its end, if there is room for all of it: how many bytes that is. The first part is short, so that no sum of
