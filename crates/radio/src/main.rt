@@ -17,12 +17,14 @@ fn main(rt: HostRuntime) -> io::Result<()> {
     let mut state = Fortuna::new().update_seed(CLOCK, &mut seed).next;
     let mut list = [0u16, 1, 2, 3, 4, 5, 6, 7, 8, 9, 10, 11];
     state = shuffle(state, CLOCK, &mut list).next;
-    let mut slots = [0u8; STATIONS];
-    for slot in &mut slots {
+    let mut bytes = [0u8; 2 * STATIONS];
+    for (byte, number) in bytes.iter_mut().zip(&list) {
+        *byte = (*number % 256) as u8;
+    }
+    for slot in &mut bytes[STATIONS..] {
         let drawn = random_below(state, CLOCK, SLOTS, 64);
         state = drawn.next;
         *slot = (drawn.answer.unwrap_or(0) % 256) as u8;
     }
-    rt.write_all(&list.map(|number| (number % 256) as u8))?;
-    rt.write_all(&slots)
+    rt.write_all(&bytes)
 }
