@@ -12,7 +12,7 @@ pub const LINE_BUFFER: usize = MAX_WIDE_LINE + 1;
 
 // Between two steps: the state, and the line so far, which stands in the first `held` places of `text`.
 // Kept: (a) `held` beside `text`, and no Vec: there is no heap.
-#[derive(Drop)]
+#[derive(Clone, Copy)]
 pub struct Session {
     pub state: Fortuna,
     pub text: [u8; LINE_BUFFER],
