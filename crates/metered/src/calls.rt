@@ -1,5 +1,5 @@
 // Requests, seed calls, draws and shuffles with a list of quotas: 37 by the list, and nothing spent after a pool reseed.
-// Kept: (a) fixed memory: by one function that takes the call as a closure a request takes 10,696 bytes of stack; as it stands 7,320.
+// Kept: (a) fixed memory: by one function that takes the call as a closure a request takes 10,696 bytes of stack; as it stands 7,112.
 // Kept: (a) state and list side by side, here, in events and in keyed_calls: docs/decisions/forms.md, 'Calls with a list are functions'.
 ghost use Rattle.pools.specs.Calls.{request, update, write, draw, shuffle};
 ghost use Rattle.metered.specs.Metering.{MetersBytes, MetersValue};
@@ -81,15 +81,18 @@ pub fn shuffle(
 pub fn random_below(state: Fortuna, list: &mut [Quota], clock: u32, n: u64, d: u32) -> Draw
     ensures { MetersValue state list.old (draw clock n d) result list.new }
 {
-    let draw = match gate(list, pools::draw_input(n, d)) {
-        Ok(()) => draws::random_below(state, clock, n, d),
+    match gate(list, pools::draw_input(n, d)) {
+        // Kept: (b) cleared here, and not behind the match as above: so a refused draw takes half the time (docs/LOOK-BACK.md).
+        Ok(()) => {
+            let draw = draws::random_below(state, clock, n, d);
+            quotas::clear_after(list, draw.emptied);
+            draw
+        }
         // Kept: (d) by hand, here and in draws alone: a Draw is no Outcome; a function for it would have these three fields as its clause.
         Err(refusal) => Draw {
             answer: Err(refusal),
             emptied: 0,
             next: state,
         },
-    };
-    quotas::clear_after(list, draw.emptied);
-    draw
+    }
 }
