@@ -1,6 +1,6 @@
 -- What the crates above use of the running hash and of D, instead of their text.
 -- Assumes nothing.
-use Rattle.std.proofs.Common.{◌≡◌, ℕ, ◌+◌, ◌-◌, ◌*◌, ◌/◌, ◌%◌, ◌^◌, ◌<◌, ◌≤◌, List, [], ◌++◌, length, drop, replicate, sym, refl, ap, ◌∙◌, le_trans, zero-add, arith, lit≤, length-append, length-drop, drop_at, ltb, le-ltb, Ok}
+use Rattle.std.proofs.Common.{◌≡◌, ℕ, ◌+◌, ◌-◌, ◌*◌, ◌/◌, ◌%◌, ◌^◌, ◌<◌, ◌≤◌, List, [], ◌++◌, length, drop, replicate, sym, refl, ap, ◌∙◌, le_trans, zero-add, arith, lit≤, length-append, length-drop, drop_at, ltb, le-ltb, true, Ok, Err}
 use native.Mathlib.Nat.{div-eq_of_lt}
 use Rattle.laws.proofs.Cases.{by-test}
 use Rattle.laws.proofs.Tabulate.{length-tabulate}
@@ -173,6 +173,11 @@ d-message-room n h = le_trans h (lit≤ tt)
 pub within-limit : {A : Type 0} (limit n : ℕ) (x : A) → n ≤ limit → within limit n x ≡ Ok x
 unfolding within
 within-limit limit n x h = rw (le-ltb limit n h)
+
+-- and for one above it
+pub above-limit : {A : Type 0} (limit n : ℕ) (x : A) → ltb limit n ≡ true → within limit n x ≡ Err (record {})
+unfolding within
+above-limit limit n x h = rw h
 
 -- the number of what is handed out
 pub number-of-within : {A : Type 0} (limit n : ℕ) (x : A) → number (within limit n x) ≡ length_number limit n
