@@ -7,11 +7,11 @@ use native.Mathlib.Nat.{pow-succ', pow-suc, mul-one, div-one, le_of_eq, one-le-p
 use native.Mathlib.Omega.{arith}
 use lib.Arith.{digits_lt, digits_div, digits_mod, mod-mul}
 use lib.Dec.{lit<}
-use lib.ListN.{length, get_or, take, length-take}
+use lib.ListN.{length, get_or, take, length-take, set, length-set}
 use lib.Seq.{take_all}
 use Rattle.std.specs.Int.{w128, byte_at, byte_worth, bytes_high_first, sum_through, from_be_bytes, to_be_bytes}
 use Rattle.cipher.specs.Aes.{Bytes}
-use Rattle.ctr_drbg.specs.Counter.{octets_to_integer, integer_to_octets}
+use Rattle.ctr_drbg.specs.Counter.{octets_to_integer, integer_to_octets, increment}
 
 positive : (n : ℕ) → 0 < 256 ^ n
 positive n = one-le-pow n 256 (zero-lt-suc 255)
@@ -117,3 +117,20 @@ bytes (suc k) n = ap₂ (λ (p : ℕ) (ps : List ℕ). p ∷ ps) (byte k n) (byt
 
 pub bytes-high_first : (n : ℕ) → to_be_bytes w128 n ≡ integer_to_octets 16 n
 bytes-high_first n = bytes 16 n
+
+-- the bytes of the number after that of v are those of a step
+pub stepped : (v : List ℕ) → length v ≡ 16 → to_be_bytes w128 ((from_be_bytes w128 v + 1) % 2 ^ 128) ≡ increment v
+unfolding increment
+stepped v full = bytes-high_first _ ∙ rw (number-high_first v full)
+
+-- the number after a store at place i, which has k places behind it
+pub integer-set : (ps : List ℕ) (i k x : ℕ) → i + suc k ≡ length ps → octets_to_integer (set ps i x) + get_or ps i 0 * 256 ^ k ≡ octets_to_integer ps + x * 256 ^ k
+unfolding octets_to_integer
+integer-set [] i k x h = absurd (omega arith)
+integer-set (p ∷ ps) zero k x h =
+    let e : length ps ≡ k = omega arith in
+    rw e (omega arith)
+integer-set (p ∷ ps) (suc i) k x h =
+    let e : p * 256 ^ length (set ps i x) + octets_to_integer (set ps i x) + get_or ps i 0 * 256 ^ k ≡ p * 256 ^ length ps + octets_to_integer ps + x * 256 ^ k =
+    rw (length-set ps i x) (omega (arith, integer-set ps i k x (omega arith))) in
+    e

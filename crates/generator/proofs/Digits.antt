@@ -1,19 +1,21 @@
 -- Laws of the counter's bytes and the number that they stand for.
 -- Assumes nothing.
-use mathlib.Core.Path.{◌≡◌, refl, ap₂, ◌∙◌}
+use mathlib.Core.Path.{◌≡◌, refl, ap₂, ◌∙◌, sym}
 use mathlib.Core.List.{List, [], ◌∷◌}
 use Prim.Native.Nat.{ℕ, zero, suc, ◌+◌, ◌*◌, ◌/◌, ◌%◌, ◌^◌, ◌-◌, ◌≤◌, ◌<◌}
-use native.Mathlib.Nat.{pow-suc, div-lt_iff_lt-mul, div-one, div-div-eq-div-mul, mul_assoc, mul_comm, le_of_eq}
+use native.Mathlib.Nat.{pow-suc, div-lt_iff_lt-mul, div-one, div-div-eq-div-mul, mul_assoc, mul_comm, le_of_eq, pow-succ', not-suc-le-zero, le_of_suc-le-suc}
 use native.Mathlib.Omega.{arith}
 use lib.Pow.{lt_of_le_ones}
 use native.Mathlib.Decide.{dec_lt}
-use lib.Dec.{ltb, lit<}
-use lib.ListN.{length, get_or, take}
+use lib.Dec.{ltb, lit<, eqb}
+use lib.ListN.{length, get_or, take, set}
 use lib.Seq.{take_all}
-use borrow.Author.Tests.{lt-ltb, le-ltb}
+use borrow.Author.Tests.{lt-ltb, le-ltb, ne_eqb}
 use Rattle.std.specs.Int.{w128, byte_at, byte_worth, bytes_low_first, sum_through, from_le_bytes, to_le_bytes}
 use Rattle.cipher.specs.Aes.{Bytes}
 use Rattle.generator.specs.Counter.{value, little_endian, max_counter, counter_block}
+use mathlib.Core.Bool.{◌&&◌}
+use Rattle.laws.specs.Lists.{all_zero}
 
 -- the number of the bytes of v is v
 pub value-little_endian : (n v : ℕ) → v < 256 ^ n → value (little_endian n v) ≡ v
@@ -100,3 +102,38 @@ bytes-little (suc n) v (suc i) = bytes-little n (v / 256) i
 pub bytes-counter : (c : ℕ) → Bytes (counter_block c)
 unfolding counter_block
 bytes-counter c = bytes-little 16 c
+
+-- ---- bytes that are stored one by one
+
+-- what is carried out of n bytes is lost
+pub little_endian-wraps : (n v : ℕ) → little_endian n (v + 256 ^ n) ≡ little_endian n v
+unfolding little_endian
+little_endian-wraps zero v = refl
+little_endian-wraps (suc n) v =
+    let p : 256 ^ suc n ≡ 256 * 256 ^ n = pow-succ' 256 n in
+    let low : (v + 256 ^ suc n) % 256 ≡ v % 256 = omega (arith, p) in
+    let high : (v + 256 ^ suc n) / 256 ≡ v / 256 + 256 ^ n = omega (arith, p) in
+    rw (low, high, little_endian-wraps n (v / 256))
+
+-- the number after a store at place i
+pub value_set : (ps : List ℕ) (i x : ℕ) → i < length ps → value (set ps i x) + get_or ps i 0 * 256 ^ i ≡ value ps + x * 256 ^ i
+unfolding value
+value_set [] i x h = absurd (not-suc-le-zero h)
+value_set (p ∷ ps) zero x h = omega arith
+value_set (p ∷ ps) (suc i) x h =
+    let rest : value (set ps i x) + get_or ps i 0 * 256 ^ i ≡ value ps + x * 256 ^ i = value_set ps i x (le_of_suc-le-suc h) in
+    let e : 256 ^ suc i ≡ 256 * 256 ^ i = pow-succ' 256 i in
+    let f : (y : ℕ) → y * (256 * 256 ^ i) ≡ 256 * (y * 256 ^ i)
+    = λ y. sym (mul_assoc y 256 (256 ^ i)) ∙ rw (mul_comm y 256) (mul_assoc 256 y (256 ^ i)) in
+    rw (e, f (get_or ps i 0), f x) (omega (arith, rest))
+
+sum-zero : (p v : ℕ) → eqb (p + 256 * v) 0 ≡ (eqb p 0 && eqb v 0)
+sum-zero zero zero = refl
+sum-zero zero (suc v) = rw (ne_eqb (0 + 256 * suc v) 0 (λ e. omega arith), ne_eqb (suc v) 0 (λ e. omega arith))
+sum-zero (suc p) v = rw (ne_eqb (suc p + 256 * v) 0 (λ e. omega arith), ne_eqb (suc p) 0 (λ e. omega arith))
+
+-- the number is 0 where each byte is
+pub all_zero-value : (ps : List ℕ) → all_zero ps ≡ eqb (value ps) 0
+unfolding all_zero value
+all_zero-value [] = refl
+all_zero-value (p ∷ ps) = rw (all_zero-value ps) (sym (sum-zero p (value ps)))

@@ -91,6 +91,15 @@ drop-replicate (suc n) (suc m) x = rw suc-sub-suc (drop-replicate n m x)
 pub byte-lt : {x : ℕ} → Fits w8 x → x < 256
 byte-lt f = f.fits
 
+-- where every element is below m, so it is after a store of one that is
+pub set_below : (m : ℕ) (ps : List ℕ) (i x : ℕ) → i < length ps → x < m → ((j : ℕ) → get_or ps j 0 < m) → (j : ℕ) → get_or (set ps i x) j 0 < m
+set_below m ps i x h b all j =
+    by-test
+    (eqb j i)
+    (get_or (set ps i x) j 0 < m)
+    (λ t. rw (eqb-true j i t, get_or-set_same ps i x 0 h) b)
+    (λ t. rw (get_or-set_other ps i j x 0 (eqb-false j i t)) (all j))
+
 -- ---- tests
 
 pub all_zero-replicate : (n : ℕ) → all_zero (replicate n 0) ≡ true

@@ -1,16 +1,16 @@
 -- Lists given by a function of the place: the loop that fills one from the front, one store a turn, and the array that a closure
 -- makes of the places.
 -- Assumes nothing.
-use mathlib.Core.Path.{◌≡◌, refl, sym, ap₂, subst, ◌∙◌}
+use mathlib.Core.Path.{◌≡◌, refl, sym, ap₂, subst, ◌∙◌, ap}
 use mathlib.Core.List.{List, [], ◌∷◌, ◌++◌}
 use mathlib.Core.Logic.{⊎_elim}
 use Prim.Native.Nat.{ℕ, zero, suc, ◌+◌, ◌≤◌, ◌<◌}
-use native.Mathlib.Nat.{not-suc-le-zero, eq-or-lt_of_le, le_of_suc-le-suc, le_refl}
+use native.Mathlib.Nat.{not-suc-le-zero, eq-or-lt_of_le, le_of_suc-le-suc, le_refl, le_antisymm}
 use native.Mathlib.Decide.{dec_le}
 use native.Mathlib.Numerals.{add-one}
 use native.Mathlib.Omega.{arith}
 use lib.ListN.{length, get_or, take, set, length-set, length-append, get_or-append}
-use lib.Seq.{get_or_at, take-suc-set}
+use lib.Seq.{get_or_at, take-suc-set, take-length}
 use denote.Param.Members.{Mut, Called}
 use Rattle.std.specs.Array.{IsFromFnResultFrom, IsFromFnResult}
 use Rattle.std.proofs.lemmas.List.{ext_get_or}
@@ -50,6 +50,9 @@ module _ {A : Type 0} where
   filled_more f n r i v (b, e, h) l ev =
       let k : i < length r = omega arith in
       (omega arith, length-set r i v ∙ e, rw add-one (take-suc-set r i v k ∙ rw (h, ev) refl))
+
+  pub filled-all : (f : ℕ → A) (n : ℕ) (r : List A) (i : ℕ) → Filled f n r i → n ≤ i → r ≡ tabulate f n
+  filled-all f n r i (b, e, h) l = sym (take-length r) ∙ ap (λ (m : ℕ). take m r) e ∙ rw (← le_antisymm b l) h
 
 -- an array that a closure makes, which gives f i at each place i and changes nothing that it has
 module _ {F B : Type 0} (g : Mut F (ℕ × Unit {0}) B) (f : ℕ → B) (d : B) (p : F) (r : List B)
