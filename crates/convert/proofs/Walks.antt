@@ -71,6 +71,11 @@ module _ {F : Type 0} (g : Mut F (Bor ℕ × Unit {0}) Bool) (s t u : SplitInclu
       (ap (λ (b : Bor (List ℕ)). b.now) is-text ∙ part-text g s t u xs sofar tests r x is next found m)
       (part-uses g s t u xs sofar tests r x is next) (part-cut g s t u xs sofar tests r x is next) (part-some g s t u xs sofar tests r x is next)
 
+-- the same of the text and the end that the code passes on, whatever words it has for them
+pub given-first : (rest piece text text' : List ℕ) (ended : Bool) (after : List ℕ) → FirstPart rest piece text (ltb (length text) (length piece)) after
+    → text' ≡ text → ended ≡ ltb (length text) (length piece) → FirstPart rest piece text' ended after
+given-first rest piece text text' ended after f same-text same-end = rw (same-text, same-end) f
+
 -- what a buffer holds where its front is written and the rest is as it was
 front-is : (out₀ out : List ℕ) (n : ℕ) → n ≤ length out₀ → length out ≡ length out₀ → drop n out ≡ drop n out₀
     → out ≡ overwrite out₀ (take n out)
@@ -131,8 +136,8 @@ module _ (wide : Bool) (log out₀ out left : List ℕ) (line written : ℕ) (w 
       }
 
   -- a line more
-  module _ (piece text : List ℕ) (ended : Bool) (after : List ℕ) (f : FirstPart left piece text ended after) (o : Result ℕ Refusal) (part' : List ℕ)
-      (g : ConvertsLine wide (line_with text ended) o part part') where
+  module _ (piece text : List ℕ) (ended : Bool) (after : List ℕ) (o : Result ℕ Refusal) (part' : List ℕ)
+      (g : ConvertsLine wide (line_with text ended) o part part') (f : FirstPart left piece text ended after) where
     used-some : 0 < length piece
     used-some = omega (arith, f.used-is, used-more left f.some)
 
