@@ -450,17 +450,20 @@ CASES_OF = "slots"
 CASES = {
     "says_the_same": (
         "NOT REFUSED",
-        "n stands in brackets, which says the same\nfile: src/bits.rt\nold: n.min(1 << 32)\nnew: (n).min(1 << 32)\n",
+        "the numbers behind the first one begin at place 1, which says the same\n"
+        "file: src/repeats.rt\nold: list[i + 1..]\nnew: list[if i == 0 { 1 } else { i + 1 }..]\n",
     ),
     "says_the_same_of_a_number": (
         "NOT REFUSED",
-        "the number of the bytes stands in brackets, which says the same\n"
-        "file: src/bits.rt\nold: u64::from(u32::from_le_bytes(bytes)) %\nnew: (u64::from(u32::from_le_bytes(bytes))) %\n",
+        "k stands beside a k one too large, which is not taken: the same is said\n"
+        "file: src/bits.rt\nold: n.min(1 << 32).next_power_of_two().ilog2()\n"
+        "new: (n.min(1 << 32).next_power_of_two().ilog2(), (n.min((1 << 32) - 1) + 1).next_power_of_two().ilog2()).0\n",
     ),
     "wrong": (
         "refused, as it must be",
         "k is one too large where n is a power of 2\n"
-        "file: src/bits.rt\nold: n.min(1 << 32).next\nnew: (n.min(1 << 32) + 1).next\n",
+        "file: src/bits.rt\nold: n.min(1 << 32).next_power_of_two().ilog2()\n"
+        "new: (n.min(1 << 32).next_power_of_two().ilog2(), (n.min((1 << 32) - 1) + 1).next_power_of_two().ilog2()).1\n",
     ),
     "wrong_under_a_new_name": (
         "refused, as it must be",

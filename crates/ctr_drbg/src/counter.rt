@@ -3,6 +3,7 @@ ghost use Rattle.std.specs.Prelude.{◌≡◌};
 ghost use Rattle.ctr_drbg.specs.Counter.{increment};
 
 // V plus 1 modulo 2^128, with no test of a byte.
+#[tactic(auto, using(crate::proofs::Digits::stepped), unfolding(crate::specs::Counter::increment))]
 pub(crate) fn increment(v: [u8; 16]) -> [u8; 16]
     ensures { result ≡ increment v }
 {

@@ -1,10 +1,11 @@
+use Rattle.std.proofs.Common.{arith}
 use Rattle.pools.specs.Effects.{with_pool}
 use Rattle.pools.proofs.EventCalls.{gain-place}
 use Rattle.metered.proofs.Eventing.{stored-gain}
 use Rattle.metered.proofs.events.add_event.Goals as goal
 
 pub bounds-state-gain : goal.bounds-state-gain
-bounds-state-gain c = gain-place _ _ c.gain_of-gain.ensures.0.2
+bounds-state-gain c = omega (arith, gain-place _ _ c.gain_of-gain.ensures.0.2)
 
 pub returns : goal.returns
 unfolding with_pool
