@@ -40,7 +40,7 @@
        fortuna_new                     12,288
        fortuna_event                    2,048
        fortuna_request                 11,776
-       fortuna_update                  15,616
+       fortuna_update                  15,360
        fortuna_write                   11,776
        fortuna_random_below            37,632
        fortuna_shuffle                 45,312
