@@ -82,7 +82,7 @@ pub fn random_below(state: Fortuna, list: &mut [Quota], clock: u32, n: u64, d: u
     ensures { MetersValue state list.old (draw clock n d) result list.new }
 {
     match gate(list, pools::draw_input(n, d)) {
-        // Kept: (b) cleared here, and not behind the match as above: so a refused draw takes half the time (docs/LOOK-BACK.md).
+        // Kept: (b) cleared here, not behind the match as above: a draw refused by 37 takes a third of the instructions (docs/LOOK-BACK.md).
         Ok(()) => {
             let draw = draws::random_below(state, clock, n, d);
             quotas::clear_after(list, draw.emptied);
