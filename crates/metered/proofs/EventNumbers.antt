@@ -16,6 +16,7 @@ use Rattle.quotas.specs.declared.Quota.{Quota}
 use Rattle.quotas.specs.Records.{quota_of, is_listed, malformed_quotas, quotas_number, event_quotas_number}
 use Rattle.quotas.specs.Charges.{comes_first, charge_number}
 use Rattle.metered.specs.Metering.{known_of, cost_of}
+use borrow.Author.Tests.{eqb-false}
 
 -- an event's input number and its list's
 abbrev pub input_of : Bool → Bool → Bool → ℕ
@@ -46,6 +47,20 @@ numbers false false false n false true v v' p h = rw p.late
 numbers false false false n false false true v' p h = rw (p.late, h refl)
 numbers false false false n false false false v' p h = rw (p.late, h refl)
 
+-- a number that the list does not give is the event's own
+abbrev pub Own : ℕ → ℕ → Type 0
+Own own n = eqb n 37 ≡ false → eqb n 38 ≡ false → eqb n 39 ≡ false → own ≡ n
+
+own-else : (a b d : Bool) (n : ℕ) (g w v : Bool) → Own (and_then (input_of a b d) n) (and_then (input_of a b d) (and_then (list_of g w v) n))
+unfolding and_then
+own-else true b d n g w v h k l = refl
+own-else false true d n g w v h k l = refl
+own-else false false true n g w v h k l = refl
+own-else false false false n true w v h k l = absurd (eqb-false 37 37 h refl)
+own-else false false false n false true v h k l = absurd (eqb-false 38 38 k refl)
+own-else false false false n false false true h k l = absurd (eqb-false 39 39 l refl)
+own-else false false false n false false false h k l = refl
+
 -- ---- an event of n bytes of data; a is the test for 11, b for 12, and m its state's number
 
 -- 13
@@ -72,6 +87,10 @@ module _ (rs : List Quota) (source n : ℕ) (a b : Bool) (m : ℕ) where
   unfolding charge_number quotas_number event_quotas_number
   charge-number p =
       numbers a b (long n) m (malformed_quotas rs) (not (is_listed rs source)) (over (gain n)) (over (cost_of n)) p (λ h. ap over (cost-is n h))
+
+  pub own-or-list : Own own_number listed_number
+  unfolding event_quotas_number
+  own-or-list = own-else a b (long n) m (malformed_quotas rs) (not (is_listed rs source)) (over (gain n))
 
   -- an accepted event has passed all three
   pub listed-passed : listed_number ≡ 0 → (own_number ≡ 0) × (cost_of n ≡ gain n)

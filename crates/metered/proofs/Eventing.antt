@@ -1,10 +1,11 @@
 -- An event with its list: its number, the list it leaves, and the pool to store.
 -- Assumes nothing.
-use mathlib.Core.Path.{◌≡◌, refl, sym, ap, ap₂, ◌∙◌}
+use mathlib.Core.Path.{◌≡◌, refl, sym, ap, ap₂, ◌∙◌, subst₂}
 use mathlib.Core.Logic.{◌≢◌}
 use mathlib.Core.Bool.{Bool, true, false, cond}
 use mathlib.Core.List.{List, []}
 use Prim.Native.Nat.{ℕ, ◌-◌, ◌%◌}
+use native.Mathlib.Nat.{mod-eq_of_lt}
 use lib.Dec.{eqb, ltb}
 use lib.ListN.{length}
 use borrow.Author.Tests.{eqb-true, eqb-false}
@@ -13,6 +14,7 @@ use Rattle.laws.specs.Refusals.{refuse}
 use Rattle.laws.proofs.Cases.{by-test}
 use Rattle.pools.specs.declared.Fortuna.{Fortuna}
 use Rattle.pools.specs.declared.Gain.{Gain}
+use Rattle.pools.specs.declared.Outcome as Method
 use Rattle.pools.specs.declared.refusal.Refusal.{Refusal}
 use Rattle.pools.specs.Events.{max_source, pool_count, gain}
 use Rattle.pools.specs.Pool.{full}
@@ -22,7 +24,7 @@ use Rattle.pools.specs.Effects.{with_pool, unchanged}
 use Rattle.pools.specs.Calls.{Call, event, input_buffer, input_number, state_number, call_number, call_found, call_value, call_effect, Outcome, outcome, step}
 use Rattle.pools.specs.Promises.{number, Gains}
 use Rattle.pools.proofs.Chains.{then-nothing, call-chains}
-use Rattle.pools.proofs.EventCalls.{pool-kept}
+use Rattle.pools.proofs.EventCalls.{gain-place, pool-kept}
 use Rattle.pools.proofs.Outcomes.{outcome-refused}
 use Rattle.quotas.specs.declared.Quota.{Quota}
 use Rattle.quotas.specs.Records.{quotas_number, charged}
@@ -32,7 +34,7 @@ use Rattle.quotas.specs.Left.{left_by}
 use Rattle.quotas.proofs.Left.{left-refused, left-charged}
 use Rattle.hash.specs.declared.hasher.Hasher.{Hasher}
 use Rattle.metered.specs.Metering.{known_of, cost_of, Meters, MetersGain}
-use Rattle.metered.proofs.EventNumbers.{ByState, own_number, listed_number, charge-number, listed-passed}
+use Rattle.metered.proofs.EventNumbers.{ByState, own_number, listed_number, charge-number, listed-passed, Own, own-or-list}
 
 -- ---- its state's number
 
@@ -74,6 +76,10 @@ module _ (s : Fortuna) (rs : List Quota) (source pool : ℕ) (content : List ℕ
   number-own : call_number s c ≡ own_number rs source n no_source no_pool (state_number s c)
   unfolding input_number event_input
   number-own = call-chains s c
+
+  -- a number that the list does not give is the event's own
+  own-number : Own (call_number s c) N
+  own-number = subst₂ Own (sym number-own) (sym number-with) (own-or-list rs source n no_source no_pool (state_number s c))
 
   own_is : (step s c).number ≡ call_number s c
   unfolding step outcome call_found
@@ -141,6 +147,9 @@ module _ (s : Fortuna) (rs : List Quota) (source pool : ℕ) (content : List ℕ
 
   -- the pool stored: the event's outcome
   pub stored-gain :
-      (g : Gain) (left : List Quota) → MetersGain s rs source pool content g left →
-      Meters s rs c (record { answer = g.answer; emptied = 0; next = with_pool s g.place g.pool }) left
-  stored-gain g left m = let given = m.0 in ((given.0, sym given.1, given.3), m.1)
+      (g : Gain) (r : Method.Outcome Fortuna) (left : List Quota) → MetersGain s rs source pool content g left →
+      (r.answer ≡ g.answer) × (r.emptied ≡ 0) × (r.next ≡ with_pool s (g.place % 32) g.pool) → Meters s rs c r left
+  stored-gain g r left m e =
+      let given = m.0 in
+      let place : g.place % 32 ≡ g.place = mod-eq_of_lt (gain-place pool g.place given.2) in
+      ((ap number e.0 ∙ given.0, e.1 ∙ sym given.1, e.2 ∙ ap (λ (i : ℕ). with_pool s i g.pool) place ∙ given.3), m.1)

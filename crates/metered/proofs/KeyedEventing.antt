@@ -1,6 +1,6 @@
 -- An event of the keyed scheduler with its list: its number, its outcome, and the list that it leaves.
 -- Assumes nothing.
-use mathlib.Core.Path.{◌≡◌, refl, sym, ap, ap₂, ◌∙◌}
+use mathlib.Core.Path.{◌≡◌, refl, sym, ap, ap₂, ◌∙◌, subst₂}
 use mathlib.Core.Logic.{◌≢◌}
 use mathlib.Core.Bool.{Bool, true, false, cond, ◌&&◌}
 use mathlib.Core.List.{List, []}
@@ -37,7 +37,7 @@ use Rattle.keyed.specs.Entries.{taking, list_number, entry_number, entry_step, c
 use Rattle.keyed.proofs.Chains.{call-chains}
 use Rattle.metered.specs.Metering.{known_of, cost_of}
 use Rattle.metered.specs.KeyedMetering.{KeyedMeters}
-use Rattle.metered.proofs.EventNumbers.{ByState, own_number, listed_number, charge-number, listed-passed}
+use Rattle.metered.proofs.EventNumbers.{ByState, own_number, listed_number, charge-number, listed-passed, Own, own-or-list}
 use Rattle.metered.proofs.Gating.{some-code}
 
 -- ---- its state's number
@@ -81,6 +81,10 @@ module _ (s : Keyed) (rs : List Quota) (source : ℕ) (content : List ℕ) where
   number-own : call_number s c ≡ own_number rs source n no_source false (state_number s c)
   unfolding input_number event_input
   number-own = call-chains s c
+
+  -- a number that the list does not give is the event's own
+  own-number : Own (call_number s c) N
+  own-number = subst₂ Own (sym number-own) (sym number-with) (own-or-list rs source n no_source false (state_number s c))
 
   own_is : (step s c).number ≡ call_number s c
   unfolding step outcome

@@ -74,10 +74,10 @@ module _ (s : Keyed) (rs : List Quota) (c : Call) (p : Plain c) where
 
   -- what behind_gate tells, i the input number, is what the call with its list promises
   pub meters-bytes :
-      (r : Method.Outcome Keyed) (out : List ℕ) (i : ℕ) → i ≡ input_number c →
-      BehindGate (quotas_number rs) i s (input_buffer c) (GivesBytes (step s c)) r out → KeyedMetersBytes s rs c r out
+      (r : Method.Outcome Keyed) (out : List ℕ) (i : ℕ) →
+      BehindGate (quotas_number rs) i s (input_buffer c) (GivesBytes (step s c)) r out → i ≡ input_number c → KeyedMetersBytes s rs c r out
   unfolding unchanged
-  meters-bytes r out i is h =
+  meters-bytes r out i h is =
       let k : ℕ = gate_number (quotas_number rs) (input_number c) in
       let told = subst (λ (n : ℕ). BehindGate (quotas_number rs) n s (input_buffer c) (GivesBytes (step s c)) r out) is h in (
         by-test (eqb 0 k) _

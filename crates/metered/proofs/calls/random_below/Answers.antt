@@ -1,8 +1,6 @@
-use Rattle.std.proofs.Common.{refl, ap, ◌∙◌, Err}
+use Rattle.std.proofs.Common.{refl, Err, rules}
 use Rattle.pools.specs.Calls.{draw, input_number}
-use Rattle.quotas.specs.Records.{quotas_number}
 use Rattle.quotas.specs.Charges.{cleared_after}
-use Rattle.metered.specs.Metering.{gate_number}
 use Rattle.metered.proofs.PlainCalls.{draw-plain, value-passed, value-refused, meters-value}
 use Rattle.metered.proofs.calls.random_below.Goals as goal
 
@@ -13,8 +11,8 @@ returns-in-Err c =
     let rs = a.list.now in
     let call = draw a.clock a.n a.d in
     let plain = draw-plain a.clock a.n a.d in
-    let by_input = ap (gate_number (quotas_number rs)) c.draw_input.ensures in
-    meters-value a.state rs call plain (record { answer = Err c.in-Err.refusal; emptied = 0; next = a.state }) _ (value-refused a.state rs call plain c.in-Err.refusal (c.in-Err.ensures ∙ by_input)) refl
+    meters-value a.state rs call plain (record { answer = Err c.in-Err.refusal; emptied = 0; next = a.state }) _
+    (value-refused a.state rs call plain c.in-Err.refusal (search rules)) refl
 
 pub returns-in-Ok : goal.returns-in-Ok
 unfolding input_number
@@ -23,7 +21,6 @@ returns-in-Ok c =
     let rs = a.list.now in
     let call = draw a.clock a.n a.d in
     let plain = draw-plain a.clock a.n a.d in
-    let by_input = ap (gate_number (quotas_number rs)) c.draw_input.ensures in
     meters-value a.state rs call plain c.random_below-draw.result _
-    (value-passed a.state rs call plain _ _ _ c.random_below-draw.ensures (c.in-Ok.ensures ∙ by_input))
+    (value-passed a.state rs call plain _ _ _ c.random_below-draw.ensures (search rules))
     c.clear_after.ensures

@@ -1,4 +1,4 @@
-use Rattle.std.proofs.Common.{refl}
+use Rattle.std.proofs.Common.{refl, rules}
 use mathlib.Core.Logic.{inl, inr}
 use Rattle.pools.specs.Calls.{shuffle, input_number, input_buffer}
 use Rattle.metered.proofs.PlainCalls.{shuffle-plain, meters-bytes}
@@ -10,9 +10,9 @@ unfolding input_number input_buffer
 returns c =
     let a = c.args in
     let j = c.match-gate in
-    meters-bytes a.state a.list.now (shuffle a.clock a.numbers.now) (shuffle-plain a.clock a.numbers.now) j.outcome _ j.numbers _ c.list_input.ensures
+    meters-bytes a.state a.list.now (shuffle a.clock a.numbers.now) (shuffle-plain a.clock a.numbers.now) j.outcome _ j.numbers _ refl
     (elim j.branch [
-      | in-Ok w ↦ rw (w.outcome-is, w.numbers-is) (inl (w.shuffle-outcome.ensures, w.in-Ok.ensures))
-      | in-Err w ↦ rw (w.outcome-is, w.numbers-is) (inr (w.in-Err.refusal, w.in-Err.ensures, w.refused-outcome.ensures, refl))
+      | in-Err w ↦ rw (w.outcome-is, w.numbers-is) (inr (w.in-Err.refusal, search rules, w.refused-outcome.ensures, refl))
+      | in-Ok w ↦ rw (w.outcome-is, w.numbers-is) (inl (w.shuffle-outcome.ensures, search rules))
     ])
     c.clear_after.ensures

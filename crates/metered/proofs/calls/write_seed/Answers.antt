@@ -1,4 +1,4 @@
-use Rattle.std.proofs.Common.{refl}
+use Rattle.std.proofs.Common.{refl, rules}
 use mathlib.Core.Logic.{inl, inr}
 use Rattle.pools.specs.Calls.{write, input_number, input_buffer}
 use Rattle.metered.proofs.PlainCalls.{write-plain, meters-bytes}
@@ -10,9 +10,9 @@ unfolding input_number input_buffer
 returns c =
     let a = c.args in
     let j = c.match-gate in
-    meters-bytes a.state a.list.now (write a.clock a.seed.now) (write-plain a.clock a.seed.now) j.outcome _ j.seed _ c.seed_input.ensures
+    meters-bytes a.state a.list.now (write a.clock a.seed.now) (write-plain a.clock a.seed.now) j.outcome _ j.seed _ refl
     (elim j.branch [
-      | in-Ok w ↦ rw (w.outcome-is, w.seed-is) (inl (w.write_seed-outcome.ensures, w.in-Ok.ensures))
-      | in-Err w ↦ rw (w.outcome-is, w.seed-is) (inr (w.in-Err.refusal, w.in-Err.ensures, w.refused-outcome.ensures, refl))
+      | in-Err w ↦ rw (w.outcome-is, w.seed-is) (inr (w.in-Err.refusal, search rules, w.refused-outcome.ensures, refl))
+      | in-Ok w ↦ rw (w.outcome-is, w.seed-is) (inl (w.write_seed-outcome.ensures, search rules))
     ])
     c.clear_after.ensures

@@ -8,5 +8,5 @@ unfolding input_number input_buffer
 returns c =
     let a = c.args in
     let told = c.behind_gate.ensures in
-    meters-bytes a.state a.list.now (request a.out.now) (request-plain a.out.now) _ _ _ c.request_input-input.ensures
-    (λ t. let made = told.0 t in search rules, told.1)
+    meters-bytes a.state a.list.now (request a.out.now) (request-plain a.out.now) _ _ _
+    (λ t. let made = told.0 t in search rules, told.1) (search rules)
