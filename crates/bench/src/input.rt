@@ -27,13 +27,17 @@ pub struct StepOutcome {
 }
 
 // How many characters stand before the first line feed, or in all.
+// Kept: (a) a loop, and no `position`: two must-fail edits need a proof that lets a harmless `enumerate` through, and over `position` none was found.
 pub fn line_length(chunk: &[u8]) -> usize
     ensures { result ≡ length (first_line chunk.now) }
 {
-    chunk
-        .iter()
-        .position(|c| *c == b'\n')
-        .unwrap_or(chunk.len())
+    for (i, c) in chunk.iter().enumerate() {
+        let ends = *c == b'\n';
+        if ends {
+            return i;
+        }
+    }
+    chunk.len()
 }
 
 impl Session {
