@@ -7,11 +7,11 @@ use Prim.Native.Nat.{ℕ, suc, ◌+◌, ◌-◌, ◌≤◌, ◌<◌, min}
 use native.Mathlib.Nat.{add-zero, suc-add}
 use native.Mathlib.Omega.{arith}
 use lib.Dec.{eqb, ltb}
-use lib.ListN.{length, take, drop, length-append}
+use lib.ListN.{length, take, drop, length-append, get_or}
 use lib.Pointwise.{pointwise}
-use lib.Seq.{append_snoc, take_at, take_all, drop_at, drop-length}
+use lib.Seq.{append_snoc, take_at, take_all, drop_at, drop-length, drop-cons}
 use denote.Ref.{Bor}
-use borrow.Author.Tests.{eqb-true, ltb-false, lt-ltb, le-ltb}
+use borrow.Author.Tests.{eqb-true, ltb-false, lt-ltb, le-ltb, ne_eqb}
 use Rattle.std.specs.Prelude.{Option, Some, None, unwrap_or, MatchOption, nat_eq}
 use Rattle.std.specs.List.{position_or_len, IsFirstMatchOrLen}
 use Rattle.std.proofs.lemmas.List.Sums.{position_or_len_is}
@@ -20,6 +20,7 @@ use Rattle.laws.proofs.Cases.{split, by-test, neither}
 use Rattle.bench.specs.Lines.{line_feed}
 use Rattle.bench.specs.Input.{final_line, lines_following, lines, first_line, has_line_feed, used_by}
 use Rattle.bench.specs.Statements.{LinesLaw}
+use native.Mathlib.Numerals.{add-one}
 
 -- if a text has no line feed, its first character is none, and the rest has none
 pub feedless-more : (c : ℕ) (r : List ℕ) → has_line_feed (c ∷ r) ≡ false → (eqb c line_feed ≡ false) × (has_line_feed r ≡ false)
@@ -151,6 +152,19 @@ module _ (chunk : List ℕ) where
       by-test (ltb (length (first_line chunk)) (length chunk)) _
       (λ t. rw (e, ← first-place, t))
       (λ t. rw (e, ← first-place, t) (omega (arith, first_fits chunk, ltb-false _ _ t)))
+
+module _ (chunk : List ℕ) (i : ℕ) (h : i < length chunk) where
+  pub first-at : get_or chunk i 0 ≡ line_feed → length (first_line (drop i chunk)) ≡ 0
+  unfolding first_line
+  first-at e = rw (drop-cons chunk i 0 h, e)
+
+  pub first_past : (get_or chunk i 0 ≡ line_feed → ⊥) → length (first_line (drop i chunk)) ≡ suc (length (first_line (drop (i + 1) chunk)))
+  unfolding first_line
+  first_past n = rw (drop-cons chunk i 0 h, ne_eqb (get_or chunk i 0) line_feed n, add-one i)
+
+pub first-end : (chunk : List ℕ) → length (first_line (drop (length chunk) chunk)) ≡ 0
+unfolding first_line
+first-end chunk = rw drop-length
 
 -- ---- the first line of an input, cut off with its line feed
 

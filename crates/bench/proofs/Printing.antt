@@ -6,7 +6,7 @@ use Prim.Native.Nat.{ℕ, suc, ◌+◌, ◌-◌, ◌*◌, ◌/◌, ◌%◌, ◌�
 use native.Mathlib.Numerals.{add-one}
 use native.Mathlib.Omega.{arith}
 use lib.ListN.{length, take, drop, get_or, set, length-append, length-drop, drop_of_length-le}
-use lib.Seq.{drop-cons, set_at, append_snoc, drop-drop}
+use lib.Seq.{drop-cons, set_at, append_snoc, drop-drop, sets, sets-eq}
 use borrow.Author.Tests.{ne_eqb}
 use Rattle.std.specs.Prelude.{Result, Ok, Err}
 use Rattle.laws.specs.Lists.{overwrite}
@@ -16,6 +16,7 @@ use Rattle.pools.specs.declared.refusal.Refusal.{Refusal}
 use Rattle.bench.specs.Hexadecimal.{encode_hex, decimal}
 use Rattle.bench.specs.Lines.{space, line_feed, number_line, spaced, output_line, Shown}
 use Rattle.bench.proofs.Hexadecimal.{length-encode}
+use native.Mathlib.Nat.{zero-add}
 
 -- a refusal is its number alone
 output-refused : (number emptied : ℕ) (bytes : List ℕ) → (number ≡ 0 → ⊥) → number_line number ≡ output_line number emptied bytes
@@ -104,3 +105,11 @@ pub output-some : (emptied : ℕ) (bytes out first part : List ℕ) (k : ℕ) �
 output-some emptied [] out first part k z h l e f = absurd (z refl)
 output-some emptied (b ∷ bytes) out first part k z h l e f =
     rw (output-done emptied (b ∷ bytes), l) (unfold decimal spaced in some-shown emptied b bytes out h first part e (rw l at f))
+
+-- stores one after the other from place 0 on
+shown-sets : (line out : List ℕ) → length line ≤ length out → Shown line (length line) out (sets out 0 line)
+shown-sets line out h = (refl, simp zero-add at (sets-eq line out 0 (omega arith)) ∙ sym (overwrite-fits out line h))
+
+pub number-shown : (n : ℕ) (out : List ℕ) → 3 ≤ length out → Shown (number_line n) 3 out (sets out 0 ((48 + n / 10) ∷ (48 + n % 10) ∷ line_feed ∷ []))
+unfolding number_line decimal
+number-shown n out h = shown-sets ((48 + n / 10) ∷ (48 + n % 10) ∷ line_feed ∷ []) out h

@@ -12,6 +12,7 @@ use borrow.Author.Tests.{leb-true, leb-false, eqb-true, eqb-false}
 use Rattle.laws.specs.Lists.{joined}
 use Rattle.laws.proofs.Cases.{by-test}
 use Rattle.pools.specs.declared.Fortuna.{Fortuna}
+use Rattle.pools.specs.State.{fresh}
 use Rattle.bench.specs.Frames.{max_wide_line}
 use Rattle.bench.specs.Lines.{LineEffect, line_feed, line_of}
 use Rattle.bench.specs.Input.{final_line, lines_following, lines, printed_from, transcript, first_line, has_line_feed, used_by, held_line, extended, ended, step_session, step_printed, finish_printed, chunk_session, chunk_printed, chunks_printed, start}
@@ -167,3 +168,8 @@ chunks-remaining (chunk ∷ chunks) x room =
 pub chunks-law : ChunksLaw
 unfolding start transcript lines held_line
 chunks-law chunks = chunks-remaining chunks start (rw length-zeros (omega arith))
+
+-- before the first line, what is to be printed is the transcript
+remaining-fresh : (text input : List ℕ) → remaining (record { state = fresh; text = text; held = 0 }) input ≡ transcript input
+unfolding held_line transcript lines
+remaining-fresh text input = refl

@@ -27,9 +27,13 @@ copied-more out s d i e h h' =
     ap (λ (l : List ℕ). set l i (get_or s i 0)) e ∙ simp zero-add at (paste_more out 0 s i 0 (simp zero-add h') h)
 
 -- how long an end is
-end-one : (ended : Bool) → ended ≡ true → length (end_of ended) ≡ 1
+pub end-one : (ended : Bool) → ended ≡ true → length (end_of ended) ≡ 1
 unfolding end_of
 end-one ended e = rw e
+
+pub end_none : (ended : Bool) → ended ≡ false → length (end_of ended) ≡ 0
+unfolding end_of
+end_none ended e = rw e
 
 module _ (out : List ℕ) (at : ℕ) (ended : Bool) where
   pub end-room : at + length (end_of ended) ≤ length out → ended ≡ true → at < length out

@@ -3,10 +3,10 @@
 use mathlib.Core.Path.{◌≡◌, refl, sym, ap, ap₂, subst₂, ◌∙◌}
 use mathlib.Core.Bool.{Bool, true, false, cond}
 use mathlib.Core.List.{List, [], ◌++◌}
-use Prim.Native.Nat.{ℕ, suc, ◌-◌, ◌<◌}
+use Prim.Native.Nat.{ℕ, suc, ◌-◌, ◌<◌, ◌+◌, ◌≤◌}
 use native.Mathlib.Omega.{arith}
 use lib.Dec.{eqb, ltb}
-use lib.ListN.{length}
+use lib.ListN.{length, take}
 use borrow.Author.Tests.{lt-ltb, le-ltb, ne_eqb}
 use Rattle.std.specs.Prelude.{Result, Err}
 use Rattle.laws.specs.Refusals.{refuse}
@@ -14,14 +14,15 @@ use Rattle.laws.proofs.Cases.{by-test}
 use Rattle.bench.specs.Frames.{frame_of_text}
 use Rattle.bench.specs.Input.{first_line, has_line_feed, used_by}
 use Rattle.bench.proofs.Buffers.{overwrite-nothing}
-use Rattle.bench.proofs.Lines.{first-all, used_all, used-ended}
+use Rattle.bench.proofs.Lines.{first-all, used_all, used-ended, first-front, first_fits, feed-test}
 use Rattle.convert.specs.Texts.{action_of, carried_out, action_number, text_number, converted}
 use Rattle.convert.specs.Logs.{Line, line_with, end_of, whole_line, converted_line, written_of, refusal_of}
-use Rattle.convert.specs.Promises.{code, code-above-0, line_writes, GivesLine, ConvertsLine, FirstPart, StoresText}
+use Rattle.convert.specs.Promises.{code, code-above-0, line_writes, GivesLine, ConvertsLine, FirstPart, StoresText, first_of}
 use Rattle.convert.specs.declared.action.Action.{Action}
 use Rattle.convert.specs.declared.refusal.Refusal.{Refusal}
 use Rattle.convert.specs.declared.refusal.Refusal.TheVariants.{NoFrame, LargeSource, NoRoom}
 use Rattle.convert.proofs.Conversions.{refusal-room, refusal-text}
+use Rattle.convert.proofs.Stores.{end-one, end_none}
 
 module _ (wide : Bool) (room : ℕ) (text : List ℕ) (ended : Bool) (action : Result Action Refusal) (is : action_of wide (frame_of_text text) ≡ action) where
   abbrev here : Line
@@ -87,6 +88,24 @@ line-left wide ended text out refusal is =
     (record { number_is = e; written_is = refl; buffer-is = sym (overwrite-nothing out) })
 
 -- ---- the line at the front of what is left
+
+-- by its length
+module _ (rest : List ℕ) (n : ℕ) (n-is : n ≡ length (first_line rest)) where
+  ended_is : ltb n (length rest) ≡ has_line_feed rest
+  ended_is = ap (λ (k : ℕ). ltb k (length rest)) n-is ∙ feed-test rest
+
+  pub first-within : n ≤ length rest
+  first-within = omega (arith, n-is, first_fits rest)
+
+  line-is : line_with (take n rest) (ltb n (length rest)) ≡ first_of rest
+  line-is = ap₂ line_with (ap (λ (k : ℕ). take k rest) n-is ∙ first-front rest) ended_is
+
+  module _ (size : ℕ) (size_is : size ≡ length (end_of (ltb n (length rest)))) where
+    pub first-used : n + size ≡ used_by rest
+    first-used =
+        by-test (has_line_feed rest) (n + size ≡ used_by rest)
+        (λ t. omega (arith, n-is, size_is, end-one _ (ended_is ∙ t), used-ended rest t))
+        (λ t. omega (arith, n-is, size_is, end_none _ (ended_is ∙ t), used_all rest t, ap length (first-all rest t)))
 
 -- by a part that takes it and its end
 pub first-part : (rest part text behind : List ℕ) → text ≡ first_line rest → length part ≡ used_by rest → rest ≡ part ++ behind → 0 < length rest

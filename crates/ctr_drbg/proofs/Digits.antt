@@ -3,7 +3,7 @@
 use mathlib.Core.Path.{◌≡◌, refl, sym, ap, ap₂, ◌∙◌}
 use mathlib.Core.List.{List, [], ◌∷◌}
 use Prim.Native.Nat.{ℕ, zero, suc, ◌+◌, ◌*◌, ◌/◌, ◌%◌, ◌^◌, ◌-◌, ◌<◌}
-use native.Mathlib.Nat.{pow-succ', pow-suc, mul-one, div-one, le_of_eq, one-le-pow, zero-lt-suc, mod-one, mod-eq_of_lt, mod-lt, mul-add-mod_self_right, add-mul, mul_assoc}
+use native.Mathlib.Nat.{pow-succ', pow-suc, mul-one, div-one, le_of_eq, one-le-pow, zero-lt-suc, mod-one, mod-eq_of_lt, mod-lt, mul-add-mod_self_right, add-mul, mul_assoc, mod-mod, add_comm, mul_comm}
 use native.Mathlib.Omega.{arith}
 use lib.Arith.{digits_lt, digits_div, digits_mod, mod-mul}
 use lib.Dec.{lit<}
@@ -124,13 +124,37 @@ unfolding increment
 stepped v full = bytes-high_first _ ∙ rw (number-high_first v full)
 
 -- the number after a store at place i, which has k places behind it
-pub integer-set : (ps : List ℕ) (i k x : ℕ) → i + suc k ≡ length ps → octets_to_integer (set ps i x) + get_or ps i 0 * 256 ^ k ≡ octets_to_integer ps + x * 256 ^ k
+pub integer-set :
+    (ps : List ℕ) (i k x : ℕ) → i + suc k ≡ length ps →
+    octets_to_integer (set ps i x) + get_or ps i 0 * 256 ^ k ≡ octets_to_integer ps + x * 256 ^ k
 unfolding octets_to_integer
 integer-set [] i k x h = absurd (omega arith)
 integer-set (p ∷ ps) zero k x h =
     let e : length ps ≡ k = omega arith in
     rw e (omega arith)
 integer-set (p ∷ ps) (suc i) k x h =
-    let e : p * 256 ^ length (set ps i x) + octets_to_integer (set ps i x) + get_or ps i 0 * 256 ^ k ≡ p * 256 ^ length ps + octets_to_integer ps + x * 256 ^ k =
+    let e : p * 256 ^ length (set ps i x) + octets_to_integer (set ps i x) + get_or ps i 0 * 256 ^ k
+    ≡ p * 256 ^ length ps + octets_to_integer ps + x * 256 ^ k =
     rw (length-set ps i x) (omega (arith, integer-set ps i k x (omega arith))) in
     e
+
+-- a turn of `increment`: the byte g and what is carried in are 256 * q + m, of which m is stored and q goes on to the place before
+pub carry-on : (a u g c q m p v : ℕ) → a + g * p ≡ u + m * p → u + c * p ≡ v → g + c ≡ 256 * q + m → a + q * (p * 256) ≡ v
+carry-on a u g c q m p v stored before split =
+    let e : (g + c) * p ≡ (256 * q + m) * p = ap (λ (x : ℕ). x * p) split in
+    let f : q * (p * 256) ≡ 256 * q * p = rw (mul_comm p 256, ← mul_assoc q 256 p, mul_comm q 256) in
+    omega (arith, e, f, stored, before, add-mul g c p, add-mul (256 * q) m p)
+
+-- V + 1 modulo 2^128 by its low bytes alone
+increment-is : (v : List ℕ) → increment v ≡ integer_to_octets 16 (octets_to_integer v + 1)
+unfolding increment
+increment-is v = octets-same 16 ((octets_to_integer v + 1) % 2 ^ 128) (octets_to_integer v + 1) (mod-mod (octets_to_integer v + 1) (256 ^ 16))
+
+-- what `increment` leaves: what is carried out of the first byte is lost
+pub incremented : (v w : List ℕ) (carry : ℕ) → length w ≡ 16 → Bytes w → octets_to_integer w + carry * 256 ^ 16 ≡ octets_to_integer v + 1
+    → w ≡ increment v
+incremented v w carry full bytes e =
+    let m : ℕ = 256 ^ 16 in
+    let same : (octets_to_integer v + 1) % m ≡ octets_to_integer w % m =
+    rw (← e, add_comm (octets_to_integer w) (carry * m)) (mul-add-mod_self_right carry m (octets_to_integer w)) in
+    sym (increment-is v ∙ octets-same 16 (octets_to_integer v + 1) (octets_to_integer w) same ∙ rw (← full) (octets-integer w bytes))

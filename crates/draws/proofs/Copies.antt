@@ -40,7 +40,7 @@ module _ (clock : ℕ) (s : Fortuna) (list order : List ℕ) (r : Outcome Fortun
 -- ---- a list that has more behind the part that is shuffled
 
 -- the same shuffle with ys behind the list, which is n long
-abbrev Behind : {S : Type 0} → ℕ → List ℕ → Drawn S → Drawn S → Type 0
+abbrev pub Behind : {S : Type 0} → ℕ → List ℕ → Drawn S → Drawn S → Type 0
 Behind n ys o longer =
     (longer.found ≡ o.found)
     × (longer.effect.emptied ≡ o.effect.emptied)
@@ -48,11 +48,15 @@ Behind n ys o longer =
     × (longer.effect.buffer ≡ o.effect.buffer ++ ys)
     × (length o.effect.buffer ≡ n)
 
-behind-case : {S : Type 0} (n : ℕ) (ys : List ℕ) (t : Bool) (a b c d : Drawn S) → (t ≡ true → Behind n ys a b) → (t ≡ false → Behind n ys c d) → Behind n ys (cond t a c) (cond t b d)
+behind-case :
+    {S : Type 0} (n : ℕ) (ys : List ℕ) (t : Bool) (a b c d : Drawn S) → (t ≡ true → Behind n ys a b) → (t ≡ false → Behind n ys c d) →
+    Behind n ys (cond t a c) (cond t b d)
 behind-case n ys true a b c d f g = f refl
 behind-case n ys false a b c d f g = g refl
 
-pub shuffle-behind : {S : Type 0} (serve : S → Effect S) (p : ℕ) (xs ys : List ℕ) (s : S) → p < length xs → Behind (length xs) ys (shuffle_from serve p xs s) (shuffle_from serve p (xs ++ ys) s)
+pub shuffle-behind :
+    {S : Type 0} (serve : S → Effect S) (p : ℕ) (xs ys : List ℕ) (s : S) → p < length xs →
+    Behind (length xs) ys (shuffle_from serve p xs s) (shuffle_from serve p (xs ++ ys) s)
 unfolding shuffle_from unchanged after leaving
 shuffle-behind serve zero xs ys s h = (refl, refl, refl, refl, refl)
 shuffle-behind serve (suc p) xs ys s h =

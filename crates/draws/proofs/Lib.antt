@@ -1,4 +1,5 @@
 pub mod Trying
 pub mod Shuffling
 pub mod Copies
+pub mod LongCopies
 pub mod Answers

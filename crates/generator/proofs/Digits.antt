@@ -1,9 +1,9 @@
 -- Laws of the counter's bytes and the number that they stand for.
 -- Assumes nothing.
-use mathlib.Core.Path.{◌≡◌, refl, ap₂, ◌∙◌, sym}
+use mathlib.Core.Path.{◌≡◌, refl, ap, ap₂, ◌∙◌, sym}
 use mathlib.Core.List.{List, [], ◌∷◌}
 use Prim.Native.Nat.{ℕ, zero, suc, ◌+◌, ◌*◌, ◌/◌, ◌%◌, ◌^◌, ◌-◌, ◌≤◌, ◌<◌}
-use native.Mathlib.Nat.{pow-suc, div-lt_iff_lt-mul, div-one, div-div-eq-div-mul, mul_assoc, mul_comm, le_of_eq, pow-succ', not-suc-le-zero, le_of_suc-le-suc}
+use native.Mathlib.Nat.{pow-suc, div-lt_iff_lt-mul, div-one, div-div-eq-div-mul, mul_assoc, mul_comm, le_of_eq, pow-succ', not-suc-le-zero, le_of_suc-le-suc, div-eq_of_lt, div-eq-sub-div, add-mul}
 use native.Mathlib.Omega.{arith}
 use lib.Pow.{lt_of_le_ones}
 use native.Mathlib.Decide.{dec_lt}
@@ -16,6 +16,12 @@ use Rattle.cipher.specs.Aes.{Bytes}
 use Rattle.generator.specs.Counter.{value, little_endian, max_counter, counter_block}
 use mathlib.Core.Bool.{◌&&◌}
 use Rattle.laws.specs.Lists.{all_zero}
+use native.Mathlib.Numerals.{add-one}
+
+pub length-little_endian : (n v : ℕ) → length (little_endian n v) ≡ n
+unfolding little_endian
+length-little_endian zero v = refl
+length-little_endian (suc n) v = ap suc (length-little_endian n (v / 256))
 
 -- the number of the bytes of v is v
 pub value-little_endian : (n v : ℕ) → v < 256 ^ n → value (little_endian n v) ≡ v
@@ -42,6 +48,18 @@ value-counter v h = value-little_endian 16 v (lt_of_le_ones 128 h)
 -- the counter's bytes are those of its value
 pub counter-value : (ps : List ℕ) → length ps ≡ 16 → Bytes ps → little_endian 16 (value ps) ≡ ps
 counter-value ps full bytes = rw (← full) (little_endian-value ps bytes)
+
+quotient-some : (m v : ℕ) → 0 < m → ltb 0 (v / m) ≡ ltb (m - 1) v
+quotient-some m v pos =
+    elim (dec_lt v m) [
+      | yes h ↦ rw (div-eq_of_lt h, le-ltb (m - 1) v (omega arith))
+      | no h ↦ rw (lt-ltb 0 (v / m) (omega (arith, div-eq-sub-div {n = v} pos (omega arith))), lt-ltb (m - 1) v (omega arith))
+    ]
+
+-- something is carried out of the counter where the sum is above its largest value
+pub carry-some : (v : ℕ) → ltb 0 (v / 256 ^ 16) ≡ ltb max_counter v
+unfolding max_counter
+carry-some v = quotient-some (256 ^ 16) v (lit< tt)
 
 none : value [] ≡ 0
 unfolding value
@@ -137,3 +155,13 @@ pub all_zero-value : (ps : List ℕ) → all_zero ps ≡ eqb (value ps) 0
 unfolding all_zero value
 all_zero-value [] = refl
 all_zero-value (p ∷ ps) = rw (all_zero-value ps) (sym (sum-zero p (value ps)))
+
+-- a 1 that is added at a place: the byte takes it, or it is 255 and the 1 goes on to the next place
+pub next-value : (a b d v s : ℕ) → a + d * s ≡ v + (d + 1) * s → v + s ≡ b → a ≡ b
+next-value a b d v s e f = omega (arith, e, f, add-mul d 1 s)
+
+pub carry-on : (ps : List ℕ) (i v : ℕ) → i < length ps → get_or ps i 0 ≡ 255 → value ps + 256 ^ i ≡ v → value (set ps i 0) + 256 ^ (i + 1) ≡ v
+carry-on ps i v h full e =
+    let p : 256 ^ (i + 1) ≡ 256 ^ i * 256 = rw add-one (pow-suc 256 i) in
+    let s : value (set ps i 0) + 255 * 256 ^ i ≡ value ps + 0 * 256 ^ i = rw full at (value_set ps i 0 h) in
+    omega (arith, p, s, e)

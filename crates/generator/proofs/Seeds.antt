@@ -19,3 +19,8 @@ unfolding max_seed
 hashed key s long h =
     let room : 32 ≤ max_d_message = d-message-room 32 (lit≤ tt) in
     within-limit max_d_message (length key + length s) (D (key ++ s)) (omega arith)
+
+-- the key and a seed within the limit are a message that D takes
+pub joined-fits : (n : ℕ) → n ≤ max_seed → 32 + n ≤ max_d_message
+unfolding max_seed
+joined-fits n h = let r : 32 ≤ max_d_message = d-message-room 32 (lit≤ tt) in omega arith

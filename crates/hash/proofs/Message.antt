@@ -1,12 +1,13 @@
 -- Messages in blocks: the laws of `blocks` and `absorb_from`.
 -- Assumes nothing.
-use Rattle.std.proofs.Common.{◌≡◌, ℕ, zero, suc, ◌+◌, ◌*◌, ◌/◌, ◌≤◌, List, ◌++◌, length, take, drop, refl, ap, ◌∙◌, ap₂, suc-add, zero-add, arith, length-append, length-drop, drop-drop}
+use Rattle.std.proofs.Common.{◌≡◌, ℕ, zero, suc, ◌+◌, ◌*◌, ◌/◌, ◌≤◌, List, ◌++◌, length, take, drop, refl, ap, ◌∙◌, ap₂, suc-add, zero-add, arith, length-append, length-drop, drop-drop, ◌-◌}
 use Rattle.std.specs.List.{fold}
 use Rattle.std.specs.Simd.{first_chunks}
 use lib.Seq.{take-append-le, drop-append-le}
 use Rattle.hash.specs.Block.{compress}
 use Rattle.hash.specs.Sha256.{blocks}
 use Rattle.hash.specs.Hasher.{absorb_from}
+use native.Mathlib.Nat.{add-sub_cancel_left}
 
 -- ---- the whole blocks of m, one after the other
 
@@ -55,3 +56,17 @@ module _ (n : ℕ) (h m x : List ℕ) (fits : n * 64 ≤ length m) where
   pub after-split : (k : ℕ) → absorb_from (blocks n h m) (drop (n * 64) m ++ x) k ≡ absorb_from h (m ++ x) k
   unfolding absorb_from
   after-split k = cc (blocks-split, same-tail)
+
+blocks_step : (h m : List ℕ) (at : ℕ) → at + 64 ≤ length m
+    → blocks ((length m - at) / 64) h (drop at m) ≡ blocks ((length m - (at + 64)) / 64) (compress h (take 64 (drop at m))) (drop (at + 64) m)
+unfolding blocks
+blocks_step h m at fits =
+    let e : (length m - at) / 64 ≡ suc ((length m - (at + 64)) / 64) = omega arith in
+    rw (e, ← drop-drop 64 at m)
+
+-- a turn: with h' after the block at `at`, what is left to hash starts 64 bytes later
+pub blocks-turn : (h₀ h h' m : List ℕ) (at : ℕ) → at + 64 ≤ length m
+    → blocks (length m / 64) h₀ m ≡ blocks ((length m - at) / 64) h (drop at m)
+    → h' ≡ compress h (take (at + 64 - at) (drop at m))
+    → blocks (length m / 64) h₀ m ≡ blocks ((length m - (at + 64)) / 64) h' (drop (at + 64) m)
+blocks-turn h₀ h h' m at fits so_far next = so_far ∙ blocks_step h m at fits ∙ rw (next, add-sub_cancel_left)

@@ -1,12 +1,12 @@
 -- What an accepted event has passed beside the checks that it shares with the present scheduler.
 -- Assumes nothing.
 use mathlib.Core.Path.{◌≡◌, refl, sym, ap, ◌∙◌}
-use mathlib.Core.Bool.{Bool, true, false, not, ◌&&◌, ◌||◌}
+use mathlib.Core.Bool.{Bool, true, false, not, ◌&&◌, ◌||◌, and-true, and-false}
 use mathlib.Core.Logic.{◌≢◌}
 use Prim.Native.Nat.{ℕ, ◌+◌, ◌≤◌}
 use native.Mathlib.Omega.{arith}
 use lib.Dec.{eqb, ltb}
-use borrow.Author.Tests.{eqb-false}
+use borrow.Author.Tests.{eqb-false, ne_eqb}
 use Rattle.laws.specs.Refusals.{refuse}
 use Rattle.laws.proofs.Refusals.{passed}
 use Rattle.generator.specs.Counter.{max_counter}
@@ -70,6 +70,15 @@ pub by_event :
     (m : Bool) (size source n c t : ℕ) → Pools.event_number m size source 0 n ≢ 0 →
     event_number m size source n c t ≡ Pools.event_number m size source 0 n
 by_event m size source n c t h = event-chains m size source n c t ∙ then-first _ (step_number c t) h
+
+-- the clause on the requests
+pub counted_none : (c : ℕ) → unseeded_counted c 0 ≡ false
+unfolding unseeded_counted
+counted_none c = and-false (eqb c 0)
+
+pub counted-some : (c n : ℕ) → (n ≡ 0 → ⊥) → unseeded_counted c n ≡ eqb c 0
+unfolding unseeded_counted
+counted-some c n h = rw (ne_eqb n 0 h) (and-true (eqb c 0))
 
 -- the clauses on the fields, and no key
 pub fields_open :

@@ -1,8 +1,10 @@
 -- The pools that a reseed uses are the first ones: one more than its number has zeros at its end, and 32 at most.
 -- Assumes nothing.
-use Rattle.std.proofs.Common.{◌≡◌, ℕ, zero, suc, ◌+◌, ◌*◌, ◌/◌, ◌%◌, ◌^◌, ◌<◌, ◌≤◌, min, true, false, ltb, ◌≢◌, length, sym, refl, ◌∙◌, ⊎_elim, append-nil, le_refl, le_of_suc-le-suc, eq-or-lt_of_le, not-suc-le-zero, add-one, arith, length-append, eq-eqb, ne_eqb, ltb-true, ltb-false}
+use Rattle.std.proofs.Common.{◌≡◌, ℕ, zero, suc, ◌+◌, ◌-◌, ◌*◌, ◌/◌, ◌%◌, ◌^◌, ◌<◌, ◌≤◌, min, true, false, ltb, ◌≢◌, length, sym, refl, ap, ◌∙◌, ⊎_elim, append-nil, le_refl, le_of_suc-le-suc, eq-or-lt_of_le, not-suc-le-zero, sub-add_cancel, add-one, arith, length-append, eq-eqb, ne_eqb, eqb-true, ltb-true, ltb-false}
+use mathlib.Core.Bool.{false≢true}
+use native.Mathlib.Nat.{zero-mod}
 use lib.Count.{under, count_trailing_zeros}
-use lib.Pow.{mod-pow-add}
+use lib.Pow.{mod-mod-pow, mod-pow-add}
 use Rattle.laws.proofs.Cases.{by-test}
 use Rattle.pools.specs.Schedule.{used, used_below}
 
@@ -41,6 +43,23 @@ used-first n count i e h =
     by-test (ltb i count) (used n i ≡ ltb i count)
     (λ t. eq-eqb (n % 2 ^ i) 0 (divides-below 32 n i h (omega (arith, e, ltb-true i count t))) ∙ sym t)
     (λ f. ne_eqb (n % 2 ^ i) 0 (divides-above 32 n i h (omega (arith, e, ltb-false i count f))) ∙ sym f)
+
+-- ---- of every number: a power of two divides it only where all lower ones do
+
+-- a power of two that divides the number, and a lower one
+used-under : (n j i : ℕ) → used n (j + i) ≡ true → used n i ≡ true
+unfolding used
+used-under n j i e =
+    eq-eqb (n % 2 ^ i) 0 (sym (mod-mod-pow n j i) ∙ ap (λ (m : ℕ). m % 2 ^ i) (eqb-true (n % 2 ^ (j + i)) 0 e) ∙ zero-mod (2 ^ i))
+
+-- up to a pool that is used, all are
+pub used-before : (n k i : ℕ) → used n k ≡ true → i ≤ k → used n i ≡ true
+used-before n k i e h = used-under n (k - i) i (rw (sub-add_cancel h) e)
+
+-- from a pool that is not used, none is
+pub unused-after : (n k i : ℕ) → used n k ≡ false → k ≤ i → used n i ≡ false
+unused-after n k i e h =
+    by-test (used n i) (used n i ≡ false) (λ t. absurd (false≢true (sym e ∙ used-before n i k t h))) (λ f. f)
 
 -- ---- the list of those that are used, where they are the first ones
 

@@ -10,7 +10,7 @@ use Rattle.std.proofs.lemmas.Nat.{pow_below}
 use native.Mathlib.Nat.{one-mul, pow-suc, eq-or-lt_of_le, add-suc, zero-add, suc-add, mod-eq_of_lt, lt_of_le_of_lt, lt_of_lt_of_le}
 use native.Mathlib.Omega.{arith}
 use lib.Dec.{leb, ltb, lit<}
-use lib.ListN.{length}
+use lib.ListN.{length, get_or}
 use lib.Pow.{pow_mono, pow_pos}
 use borrow.Author.Tests.{le-leb, lt-leb, leb-true, leb-false, ltb-true, ltb-false}
 use Rattle.laws.proofs.Cases.{by-test}
@@ -135,20 +135,31 @@ pub shifted : (k : ℕ) → k ≤ 32 → 1 * 2 ^ k % 2 ^ 64 ≡ 2 ^ k
 shifted k h = rw one-mul (mod-eq_of_lt (lt_of_le_of_lt (pow_mono h) (lit< tt)))
 
 -- the machine's number of 4 bytes
-value-four : (s : List ℕ) → length s ≡ 4 → from_le_bytes w32 s ≡ value s
-value-four [] h = absurd (omega arith)
-value-four (p ∷ []) h = absurd (omega arith)
-value-four (p ∷ q ∷ []) h = absurd (omega arith)
-value-four (p ∷ q ∷ r ∷ []) h = absurd (omega arith)
-value-four (p ∷ q ∷ r ∷ s ∷ []) h =
+value-from_le_bytes : (s : List ℕ) → length s ≡ 4 → from_le_bytes w32 s ≡ value s
+value-from_le_bytes [] h = absurd (omega arith)
+value-from_le_bytes (p ∷ []) h = absurd (omega arith)
+value-from_le_bytes (p ∷ q ∷ []) h = absurd (omega arith)
+value-from_le_bytes (p ∷ q ∷ r ∷ []) h = absurd (omega arith)
+value-from_le_bytes (p ∷ q ∷ r ∷ s ∷ []) h =
     rw (value-more p (q ∷ r ∷ s ∷ []), value-more q (r ∷ s ∷ []), value-more r (s ∷ []), value-more s [], value_none) (omega arith)
-value-four (p ∷ q ∷ r ∷ s ∷ t ∷ u) h = absurd (omega arith)
+value-from_le_bytes (p ∷ q ∷ r ∷ s ∷ t ∷ u) h = absurd (omega arith)
+
+-- the number of 4 bytes a, b, c, d
+pub value-four : (s : List ℕ) (a b c d : ℕ) → length s ≡ 4 → a ≡ get_or s 0 0 → b ≡ get_or s 1 0 → c ≡ get_or s 2 0 → d ≡ get_or s 3 0
+    → a + 256 * (b + 256 * (c + 256 * d)) ≡ value s
+value-four [] a b c d h e f g i = absurd (omega arith)
+value-four (p ∷ []) a b c d h e f g i = absurd (omega arith)
+value-four (p ∷ q ∷ []) a b c d h e f g i = absurd (omega arith)
+value-four (p ∷ q ∷ r ∷ []) a b c d h e f g i = absurd (omega arith)
+value-four (p ∷ q ∷ r ∷ s ∷ []) a b c d h e f g i =
+    rw (value-more p (q ∷ r ∷ s ∷ []), value-more q (r ∷ s ∷ []), value-more r (s ∷ []), value-more s [], value_none) (omega arith)
+value-four (p ∷ q ∷ r ∷ s ∷ t ∷ u) a b c d h e f g i = absurd (omega arith)
 
 -- its low k bits, of which there are 32
 pub low-bits : (s : List ℕ) (n k m : ℕ) → length s ≡ 4 → n ≡ from_le_bytes w32 s → n < 2 ^ 32 → m ≡ min k 32
     → n % (1 * 2 ^ m % 2 ^ 64) ≡ value s % 2 ^ k
 low-bits s n k m long e h least =
-    let v : n ≡ value s = e ∙ value-four s long in
+    let v : n ≡ value s = e ∙ value-from_le_bytes s long in
     by-test
     (ltb k 32)
     _
@@ -160,3 +171,12 @@ low-bits s n k m long e h least =
     let b = ltb-false k 32 t in
     let all : m ≡ 32 = omega arith in
     rw (all, ← v, mod-eq_of_lt h) (sym (mod-eq_of_lt (lt_of_lt_of_le h (pow_mono b)))))
+
+least-here : (t : ℕ → Bool) (f k : ℕ) → t k ≡ true → least_from t f k ≡ k
+unfolding least_from
+least-here t zero k h = refl
+least-here t (suc f) k h = rw h
+
+-- from k = 32 on the low bits of a number below 2^32 are the number itself
+pub all-bits : (r x k : ℕ) → r ≡ x → r < 2 ^ 32 → 32 ≤ k → r ≡ x % 2 ^ k
+all-bits r x k e h l = sym (ap (λ (y : ℕ). y % 2 ^ k) (sym e) ∙ mod-eq_of_lt (lt_of_lt_of_le h (pow_mono l)))

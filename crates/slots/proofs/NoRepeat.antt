@@ -3,18 +3,20 @@
 use mathlib.Core.Path.{◌≡◌, refl, ap, ap₂, sym, ◌∙◌}
 use mathlib.Core.Bool.{Bool, true, false, cond, ◌||◌, true≢false}
 use mathlib.Core.List.{List, [], ◌∷◌, nil≢cons}
-use Prim.Native.Nat.{ℕ, zero, suc, ◌+◌, ◌-◌, ◌≤◌, zero-le}
+use Prim.Native.Nat.{ℕ, zero, suc, ◌+◌, ◌-◌, ◌≤◌, zero-le, ◌<◌}
 use native.Mathlib.Numerals.{add-one}
 use native.Mathlib.Omega.{arith}
 use lib.Dec.{eqb}
 use Rattle.std.specs.List.{list_any, enumerate_from}
 use Rattle.laws.proofs.Copy.{part_end}
-use lib.ListN.{length, take, drop}
+use lib.ListN.{length, take, drop, get_or, drop_of_length-le}
 use borrow.Author.Tests.{eq-eqb, ne_eqb, eqb-true}
 use Rattle.laws.specs.Lists.{count_of}
 use Rattle.laws.proofs.Cases.{neither}
 use Rattle.slots.specs.Shuffle.{Distinct, is_in, has_repeat, RepeatLaw}
 use Rattle.slots.proofs.Counts.{distinct_tail, distinct-once}
+use mathlib.Core.Logic.{◌≢◌}
+use lib.Seq.{drop-cons}
 
 -- ---- what the test says
 
@@ -88,3 +90,32 @@ any-behind s (x ∷ xs) i e =
     let here : list_any (λ (y : ℕ). eqb y x) (take (length s - (i + 1)) (drop (i + 1) s)) ≡ is_in x xs =
     rw part_end (found x (drop (i + 1) s)) ∙ ap (is_in x) rest in
     ap₂ (λ (a b : Bool). a || b) here (any-behind s xs (i + 1) rest)
+
+in-next : (x : ℕ) (s : List ℕ) (i : ℕ) → i < length s → is_in x (drop i s) ≡ (eqb x (get_or s i 0) || is_in x (drop (i + 1) s))
+unfolding is_in
+in-next x s i h = rw (add-one i, drop-cons s i 0 h)
+
+pub in-here : (x : ℕ) (s : List ℕ) (i : ℕ) → i < length s → x ≡ get_or s i 0 → is_in x (drop i s) ≡ true
+in-here x s i h e = rw (in-next x s i h, eq-eqb x (get_or s i 0) e)
+
+pub in-past : (x : ℕ) (s : List ℕ) (i : ℕ) → i < length s → x ≢ get_or s i 0 → is_in x (drop i s) ≡ is_in x (drop (i + 1) s)
+in-past x s i h e = rw (in-next x s i h, ne_eqb x (get_or s i 0) e)
+
+pub in_end : (x : ℕ) (s : List ℕ) (i : ℕ) → length s ≤ i → is_in x (drop i s) ≡ false
+unfolding is_in
+in_end x s i h = rw (drop_of_length-le s h)
+
+repeat-next : (s : List ℕ) (i : ℕ) → i < length s → has_repeat (drop i s) ≡ (is_in (get_or s i 0) (drop (i + 1) s) || has_repeat (drop (i + 1) s))
+unfolding has_repeat
+repeat-next s i h = rw (add-one i, drop-cons s i 0 h)
+
+pub repeat-here : (s : List ℕ) (i : ℕ) → i < length s → is_in (get_or s i 0) (drop (i + 1) s) ≡ true → has_repeat (drop i s) ≡ true
+repeat-here s i h e = rw (repeat-next s i h, e)
+
+pub repeat_past : (s : List ℕ) (i : ℕ) → i < length s → is_in (get_or s i 0) (drop (i + 1) s) ≡ false
+    → has_repeat (drop i s) ≡ has_repeat (drop (i + 1) s)
+repeat_past s i h e = rw (repeat-next s i h, e)
+
+pub repeat-end : (s : List ℕ) (i : ℕ) → length s ≤ i → has_repeat (drop i s) ≡ false
+unfolding has_repeat
+repeat-end s i h = rw (drop_of_length-le s h)

@@ -1,7 +1,7 @@
 use mathlib.Core.Path.{◌≡◌, refl}
 use native.Mathlib.Omega.{arith}
 use Rattle.word_cipher.specs.Cipher.{word_rounds, word_cipher}
-use Rattle.word_cipher.proofs.Rounds.{two-more}
+use Rattle.word_cipher.proofs.Rounds.{two-in-a-turn}
 use Rattle.word_cipher.proofs.block.encrypt_by.Goals as goal
 
 pub loop-turn-init : goal.loop-turn-init
@@ -11,7 +11,7 @@ loop-turn-init c = refl
 pub loop-turn-preserved : goal.loop-turn-preserved
 loop-turn-preserved c =
     let l = c.loop-turn in
-    two-more _ _ _ _ _ _ l.turn l.invariant c.round-middle.ensures c.round-u.ensures
+    two-in-a-turn _ _ _ _ _ _ l.turn l.invariant c.round-middle.ensures c.round-u.ensures
 
 pub returns : goal.returns
 unfolding word_cipher word_rounds
